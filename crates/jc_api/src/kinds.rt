@@ -1,5 +1,7 @@
 //! The kinds of parameters, which the rows of the platform's methods list.
-ghost use Rattle.std.specs.Prelude.{◌≡◌, false};
+ghost use Rattle.std.specs.Prelude.{◌≡◌, false, true};
+ghost use Rattle.jc_memory.specs.State.{MemoryState};
+ghost use Rattle.jc_linker.specs.Values.{Packages};
 ghost use Rattle.jc_api.specs.Kinds.{have_kinds, is_number, is_object_of, is_of_kind, refers_to};
 
 use jc_frames::Cell;
@@ -39,7 +41,8 @@ fn is_object_of(kind: ParameterKind, facts: Facts, linked: &Linked) -> bool
     }
 }
 
-// Null, or a reference to what a kind asks for.
+// Null, or a reference to what a kind asks for. It stands out of line, so that no number asks for memory of its own.
+#[inline(never)]
 fn refers_to<S: WordStore>(
     kind: ParameterKind,
     reference: Ref,
@@ -78,8 +81,36 @@ fn is_of_kind<S: WordStore>(
     }
 }
 
+// The arguments are shorts, and these kinds are those of numbers: nothing of the memory is asked.
+fn are_numbers(kinds: &[ParameterKind], args: &[Cell]) -> bool
+    ensures { (p : Packages) (m : MemoryState) → result ≡ true
+        → have_kinds kinds.now p m args.now ≡ true }
+{
+    let Some((kind, kinds)) = kinds.split_first() else {
+        return true;
+    };
+    match args.split_first() {
+        Some((Cell::Short(_), args)) => is_number(*kind) && are_numbers(kinds, args),
+        _ => false,
+    }
+}
+
 /// The arguments are of these kinds, one after the other: numbers, or null and references to what the kind asks for.
 pub fn have_kinds<S: WordStore>(
+    kinds: &[ParameterKind],
+    args: &[Cell],
+    memory: &Memory<S>,
+    linked: &Linked,
+) -> bool
+    requires up { memory.now.heap.down ≡ false }
+    ensures { result ≡ have_kinds kinds.now linked.now memory.now args.now }
+{
+    are_numbers(kinds, args) || are_of_kinds(kinds, args, memory, linked)
+}
+
+// The same, out of line, where one of them may be no number.
+#[inline(never)]
+fn are_of_kinds<S: WordStore>(
     kinds: &[ParameterKind],
     args: &[Cell],
     memory: &Memory<S>,
@@ -94,5 +125,5 @@ pub fn have_kinds<S: WordStore>(
     let Some((argument, args)) = args.split_first() else {
         return false;
     };
-    is_of_kind(*kind, *argument, memory, linked) && have_kinds(kinds, args, memory, linked)
+    is_of_kind(*kind, *argument, memory, linked) && are_of_kinds(kinds, args, memory, linked)
 }

@@ -54,6 +54,7 @@ fn register_as<S: WordStore>(
 
 // `Applet.register`: registers the instance with the AID of its entry in the Applet component.
 #[tactic(auto, unfolding(crate::specs::Applet::applet_register))]
+#[inline(never)]
 fn applet_register<S: WordStore>(
     args: &[Cell],
     memory: &mut Memory<S>,
@@ -89,6 +90,7 @@ fn register_bytes<S: WordStore>(
 
 // `Applet.register(byte[], short, byte)`: registers the instance with the AID that is given.
 #[tactic(auto, unfolding(crate::specs::Applet::applet_register_bytes))]
+#[inline(never)]
 fn applet_register_bytes<S: WordStore>(
     args: &[Cell],
     memory: &mut Memory<S>,
@@ -109,7 +111,7 @@ fn applet_register_bytes<S: WordStore>(
 /// A call of a method of `Applet`: what the class does itself, where no class below overrides it. `process`, which is abstract, is a
 /// code fault.
 #[tactic(auto, unfolding(crate::specs::Applet::applet_call))]
-#[inline(never)]
+#[inline(always)]
 pub fn call_applet<S: WordStore>(
     method: AppletsMethod,
     args: &[Cell],

@@ -85,7 +85,7 @@ fn array_fill<S: WordStore>(
 
 // `Util.setShort`: sets two bytes as one change; returns the index after them.
 #[tactic(auto, unfolding(crate::specs::Util::util_set_short))]
-#[inline(never)]
+#[inline(always)]
 fn util_set_short<S: WordStore>(
     args: &[Cell],
     memory: &mut Memory<S>,

@@ -143,6 +143,7 @@ fn status_of(ending: AppletResult) -> StatusWord
 }
 
 // The selected applet answers the command.
+#[inline(always)]
 fn to_selected<S: WordStore>(
     budget: Budget,
     expected: u16,
@@ -185,16 +186,15 @@ fn route<S: WordStore>(
         memory.old) memory.old (after_step result memory.new) }
     ensures outside { OnOk result (memory.new.heap.begun ≡ false) }
 {
-    if !is_select(command) {
-        return to_selected(budget, expected, frames, memory, linked);
+    if is_select(command) {
+        if command.data == MANAGER_AID.as_slice() {
+            return select_manager(budget, frames, memory, linked);
+        }
+        if let Some(applet) = applet_with_aid(memory, command.data) {
+            return select(budget, applet, expected, frames, memory, linked);
+        }
     }
-    if command.data == MANAGER_AID.as_slice() {
-        return select_manager(budget, frames, memory, linked);
-    }
-    match applet_with_aid(memory, command.data) {
-        Some(applet) => select(budget, applet, expected, frames, memory, linked),
-        None => to_selected(budget, expected, frames, memory, linked),
-    }
+    to_selected(budget, expected, frames, memory, linked)
 }
 
 impl<S: WordStore> Card<S> {

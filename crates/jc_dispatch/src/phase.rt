@@ -111,6 +111,7 @@ pub(crate) fn instance_of<S: WordStore>(applet: AppletNumber, memory: &Memory<S>
 
 // The method that an applet's class has under a name of the platform's class Applet.
 #[tactic(auto, unfolding(crate::specs::Phase::method_named))]
+#[inline(always)]
 fn method_named<S: WordStore>(
     name: PlatformMethod,
     applet: Ref,
@@ -125,8 +126,17 @@ fn method_named<S: WordStore>(
     linked.method_at(facts.class(), 0, VirtualToken::Public(token))
 }
 
-// Notes which method of an applet begins. Of the one before nothing is said any more.
+// Notes which method of an applet begins, where notes are kept. Of the one before nothing is said any more.
+#[inline(always)]
 fn note_phase(name: PlatformMethod, notes: &Notes) {
+    if notes.are_kept() {
+        note_kept_phase(name, notes);
+    }
+}
+
+#[cold]
+#[inline(never)]
+fn note_kept_phase(name: PlatformMethod, notes: &Notes) {
     notes.forget();
     match name {
         PlatformMethod::Applets(AppletsMethod::AppletSelect) => notes.phase(Phase::Select),

@@ -69,6 +69,7 @@ impl Frames {
 
     /// Begins the frame of a method with these arguments, which nothing called. The frames that were
     /// there are gone.
+    #[inline(always)]
     pub fn begin(&mut self, arguments: &[Cell], locals: u8, limit: u8, place: u16, origin: Origin)
         requires { length arguments.now + locals + limit ≤ 512 }
         ensures { self.new ≡ record {
@@ -118,6 +119,7 @@ impl Frames {
 }
 
 // Puts cells after the others.
+#[inline(always)]
 fn push_all(cells: &mut FixedStack<Cell, MOST_CELLS>, more: &[Cell])
     requires { length cells.old.items + length more.now ≤ 512 }
     ensures { cells.new.items ≡ cells.old.items ++ more.now }
@@ -133,7 +135,7 @@ pub(crate) fn push_zeros(cells: &mut FixedStack<Cell, MOST_CELLS>, count: u16)
     requires { length cells.old.items + count ≤ 512 }
     ensures { cells.new.items ≡ cells.old.items ++ replicate count (Short (pos 0)) }
 {
-    for _done in 0..count {
+    for _done in 0..usize::from(count) {
         cells.push(Cell::Short(0));
     }
 }

@@ -6,6 +6,10 @@ ghost use Rattle.jc_linker.specs.Classes.{is_below};
 ghost use Rattle.jc_linker.specs.Methods.{interface_method_at, method_below};
 ghost use Rattle.jc_linker.specs.declared.target.Method.TheVariants.{Code, Native};
 ghost use Rattle.jc_cap.specs.declared.pool.VirtualToken.{VirtualToken};
+ghost use Rattle.jc_linker.specs.Values.{Packages};
+ghost use Rattle.jc_firewall.specs.declared.access.Access.TheVariants.{VirtualCall};
+ghost use Rattle.jc_firewall.specs.declared.decide.Decision.TheVariants.{Switch};
+ghost use Rattle.jc_firewall.specs.declared.subject.Context.TheVariants.{Jcre};
 ghost use Rattle.jc_world.specs.Answers.{and_then};
 ghost use Rattle.jc_world.specs.Contexts.{firewall_decision};
 ghost use Rattle.jc_world.specs.Objects.{check_or_fault, some_or_fault};
@@ -27,7 +31,7 @@ use jc_linker::linked::Linked;
 use jc_linker::target::{Method, Target};
 use jc_memory::{Memory, Owner};
 use jc_platform::names::{PlatformClass, PlatformMethod};
-use jc_transient::{ClassWord, Ref};
+use jc_transient::{ClassWord, ClearEvent, Ref};
 use jc_words::WordStore;
 use jc_world::contexts::{allow, firewall_decision, is_own};
 use jc_world::objects::{is_instance, object};
@@ -519,7 +523,6 @@ fn select_virtual_method<C, S: WordStore>(
 
 // The method of the platform that a virtual call finds on an instance of a class below the one that its entry names with this method, if it
 // is one that takes as many cells.
-#[tactic(auto, using(jc_linker::proofs::Inheriting::inherited_below, jc_linker::proofs::Inheriting::inherited_found))]
 #[inline(never)]
 fn found_below(
     own: ClassWord,
@@ -530,11 +533,6 @@ fn found_below(
 ) -> Option<PlatformMethod>
     ensures { IfSome result (IsFoundAt linked.now own class token method) }
 {
-    if let VirtualToken::Public(token) = token {
-        if linked.inherits_method(own, class, token) {
-            return Some(method);
-        }
-    }
     if !linked.is_below(own, class) {
         return None;
     }
@@ -547,7 +545,7 @@ fn found_below(
 }
 
 // The same where the class may be the one that the entry names.
-#[tactic(auto, using(crate::proofs::Same::method_itself, jc_world::proofs::Below::below_same))]
+#[tactic(auto, using(crate::proofs::Same::method_itself, jc_world::proofs::Below::below_same, jc_linker::proofs::Inheriting::inherited_below, jc_linker::proofs::Inheriting::inherited_found))]
 #[inline(always)]
 fn found_at(
     own: ClassWord,
@@ -561,7 +559,54 @@ fn found_at(
     if class == own {
         return Some(method);
     }
+    if let VirtualToken::Public(token) = token {
+        if linked.inherits_method(own, class, token) {
+            return Some(method);
+        }
+    }
     found_below(own, class, token, method, linked)
+}
+
+// It belongs to the runtime environment, code of an applet or a package runs, and no deselection clears it: a virtual call goes on in the
+// runtime environment's context.
+#[tactic(auto, using(jc_world::proofs::Services::switched))]
+#[inline(always)]
+fn is_service<S: WordStore>(facts: Facts, memory: &Memory<S>) -> bool
+    ensures { (p : Packages) → result ≡ true
+        → firewall_decision VirtualCall p memory.now facts ≡ Switch Jcre }
+{
+    let runs_for_runtime = match memory.registers().active {
+        Owner::Runtime => true,
+        _ => false,
+    };
+    let is_cleared = match facts.event {
+        Some(ClearEvent::Deselect) => true,
+        _ => false,
+    };
+    !runs_for_runtime && facts.owner().0 == 0 && !is_cleared
+}
+
+// The owner for whom a method of the platform runs that a virtual call on an object with this header runs, where that is another one than the
+// caller's; nothing where a rule refuses the call.
+#[inline(always)]
+fn native_owner<S: WordStore>(
+    header: Facts,
+    receiver: Ref,
+    memory: &Memory<S>,
+    linked: &Linked,
+) -> Option<Option<Owner>>
+    requires up { memory.now.heap.down ≡ false }
+    requires there { IsObject memory.now.heap.now receiver }
+    requires header { header ≡ facts memory.now.heap.now receiver }
+    ensures { IfSome result (IsSwitchedTo VirtualCall linked.now memory.now header) }
+{
+    if is_own(header, memory) {
+        return Some(None);
+    }
+    if is_service(header, memory) {
+        return Some(Some(Owner::of(header.owner())));
+    }
+    switched_owner(Access::VirtualCall, receiver, memory, linked)
 }
 
 // The method of the platform that a virtual call runs whose entry names one with this many cells, where the arguments are of the kinds that
@@ -587,16 +632,15 @@ fn virtual_of_platform<S: WordStore>(
     if receiver.is_null() {
         return None;
     }
-    let facts = object(receiver, memory).ok()?;
+    // Its header is read once it is known to be there: what is not asked of it is not decoded.
+    object(receiver, memory).ok()?;
+    let facts = memory.facts(receiver);
     let found = found_at(class_of(facts, linked), class, token, method, linked)?;
     if !native_fits(found, frames, memory, linked) {
         return None;
     }
-    match firewall_decision(Access::VirtualCall, facts, memory, linked) {
-        Decision::Allow => Some(found),
-        Decision::Switch(_) => Some(found),
-        Decision::Deny(_) => None,
-    }
+    let _owner = native_owner(facts, receiver, memory, linked)?;
+    Some(found)
 }
 
 /// The method of the platform that a virtual call by this entry runs, and how many cells its arguments have, where that is known at once;

@@ -4,3 +4,4 @@ pub mod Behind
 pub mod Extending
 pub mod Inheriting
 pub mod PlatformLists
+pub mod AtOnce

@@ -1,7 +1,7 @@
 //! Linked classes.
 ghost use Rattle.std.specs.Prelude.{◌≡◌, ◌+◌, ◌==◌, find, option_copied};
 ghost use Rattle.jc_linker.specs.Classes.{declares_reference, is_listed};
-ghost use Rattle.jc_linker.specs.Methods.{in_list, in_table};
+ghost use Rattle.jc_linker.specs.Methods.{in_list, in_table, is_silent};
 
 use crate::search::Search;
 use crate::target::Method;
@@ -98,6 +98,18 @@ impl TokenTable {
                 offset,
             }),
         }
+    }
+
+    // The table leaves a token to the superclass.
+    #[inline(always)]
+    pub(crate) fn leaves(&self, token: u8) -> bool
+        ensures { result ≡ is_silent (in_table 0 self.now token) }
+    {
+        if token < self.base {
+            return true;
+        }
+        let place = usize::from(token - self.base);
+        self.offsets.get(place).copied() == Some(65535)
     }
 }
 

@@ -1,12 +1,14 @@
 //! The packages of a card.
-ghost use Rattle.std.specs.Prelude.{◌≡◌, ◌<◌, ◌≤◌, ◌++◌, [], ◌∷◌, length, slice_get, IfOk, option_copied};
-ghost use Rattle.jc_linker.specs.Classes.{is_below, is_class, is_instantiable_class, is_shareable, package_in, reference_cell, size_of, superclass_in};
+ghost use Rattle.std.specs.Prelude.{ℕ, ◌≡◌, ◌<◌, ◌≤◌, ◌++◌, [], ◌∷◌, Some, true, length, slice_get, IfOk, IfSome, option_copied};
+ghost use Rattle.jc_linker.specs.Classes.{class_in, is_below, is_class, is_instantiable_class, is_shareable, package_in, reference_cell, size_of, superclass_in};
 ghost use Rattle.jc_linker.specs.Linking.{with_package};
 ghost use Rattle.jc_linker.specs.Methods.{inherits_method, interface_method_at, method_at, method_below};
 ghost use Rattle.jc_linker.specs.Resolve.{names_interface};
 
+use crate::class::LinkedClass;
 use crate::package::LinkedPackage;
 use crate::scope::Scope;
+use crate::search::Search;
 use crate::target::Method;
 use jc_cap::pool::VirtualToken;
 use jc_platform::platform::Platform;
@@ -88,6 +90,17 @@ impl Linked {
         } else {
             self.loaded.get(number as usize - 1)
         }
+    }
+
+    // The class of a loaded package with this word.
+    #[tactic(auto, unfolding(crate::specs::Classes::class_in))]
+    #[inline(always)]
+    fn loaded_class(&self, class: ClassWord) -> Option<&LinkedClass>
+        ensures { option_copied result ≡ class_in self.now class }
+    {
+        self.package((class.0 / 256) as u8)?
+            .classes
+            .get((class.0 % 256) as usize)
     }
 
     pub(crate) fn scope(&self) -> Scope<'_>
@@ -180,7 +193,27 @@ impl Linked {
     ) -> Option<Method>
         ensures { result ≡ method_at self.now class package_number token }
     {
-        self.scope().method_at(class, package_number, token)
+        match self.own_method(class, token) {
+            Some(method) => Some(method),
+            None => self.scope().method_at(class, package_number, token),
+        }
+    }
+
+    // The method that a loaded class itself has under a public token.
+    #[tactic(auto, using(crate::proofs::AtOnce::own_found))]
+    #[inline(always)]
+    fn own_method(&self, class: ClassWord, token: VirtualToken) -> Option<Method>
+        ensures { IfSome result (λ method. (package_number : ℕ)
+            → method_at self.now class package_number token ≡ Some method) }
+    {
+        let VirtualToken::Public(token) = token else {
+            return None;
+        };
+        let loaded = self.loaded_class(class)?;
+        match loaded.public_methods.find((class.0 / 256) as u8, token) {
+            Search::Found(method) => Some(method),
+            Search::Above | Search::Nowhere => None,
+        }
     }
 
     /// The method that a call by token runs on an instance of a class, where linking found this method for the class that
@@ -200,10 +233,26 @@ impl Linked {
     /// Whether a call by this public token on an instance of the first class runs the method that linking found for the second one, since the
     /// walk up from the first class comes to the second one and no class before says anything of the token. It takes time that grows
     /// with the number of classes up to the second one.
+    #[inline(always)]
     pub fn inherits_method(&self, own: ClassWord, class: ClassWord, token: u8) -> bool
         ensures { result ≡ inherits_method self.now own class token }
     {
-        self.scope().inherits_method(own, class, token)
+        self.inherits_at_once(own, class, token) || self.scope().inherits_method(own, class, token)
+    }
+
+    // The same where the first class is a loaded one right below the second one.
+    #[tactic(auto, using(crate::proofs::AtOnce::inherited_at_once))]
+    #[inline(always)]
+    fn inherits_at_once(&self, own: ClassWord, class: ClassWord, token: u8) -> bool
+        ensures { result ≡ true → inherits_method self.now own class token ≡ true }
+    {
+        let Some(loaded) = self.loaded_class(own) else {
+            return false;
+        };
+        if loaded.is_interface || loaded.superclass != class {
+            return false;
+        }
+        loaded.public_methods.leaves(token)
     }
 
     /// The method that a call of an interface's method by token on an instance of a class runs. It takes time that

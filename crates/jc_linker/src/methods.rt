@@ -141,6 +141,7 @@ impl Scope<'_> {
     /// Whether a call by this public token on an instance of the first class runs the method that linking found for the second one, since the
     /// walk up from the first class comes to the second one and no class before says anything of the token.
     #[tactic(auto, unfolding(crate::specs::Methods::leads_to))]
+    #[inline(never)]
     pub(crate) fn inherits_method(&self, own: ClassWord, class: ClassWord, token: u8) -> bool
         ensures { result ≡ inherits_method self.now own class token }
     {

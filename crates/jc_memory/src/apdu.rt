@@ -12,6 +12,11 @@ use jc_words::WordStore;
 // How many bytes are read at once where they are sent.
 const SENT_AT_ONCE: u16 = 256;
 
+const PIECE: usize = SENT_AT_ONCE as usize;
+
+// How many bytes most answers have at most.
+const FEW: usize = 16;
+
 impl<S: WordStore> Memory<S> {
     /// Begins a command of these bytes, in answer to which nothing was sent yet.
     pub fn start(&mut self, bytes: &[u8])
@@ -38,16 +43,17 @@ impl<S: WordStore> Memory<S> {
         self.sent.append(bytes);
     }
 
-    // Sends a few bytes of an object from an index on, after those that were sent already.
-    fn send_piece(&mut self, object: Ref, i: u16, count: u16)
+    // Sends at most `MOST` bytes of an object from an index on, after those that were sent already.
+    fn send_piece<const MOST: usize>(&mut self, object: Ref, i: u16, count: u16)
         requires up { self.old.heap.down ≡ false }
         requires there { IsObject self.old.heap.now object }
         requires cells { i + count ≤ (facts self.old.heap.now object).length }
         requires few { length self.old.sent + count ≤ MOST_SENT }
-        requires piece { count ≤ SENT_AT_ONCE }
+        requires piece { count ≤ MOST }
+        requires most { MOST ≤ PIECE }
         ensures { self.new ≡ apply_effect (SendBytes (bytes_at self.old object i count)) self.old }
     {
-        let mut bytes = [0; SENT_AT_ONCE as usize];
+        let mut bytes = [0; MOST];
         let bytes = &mut bytes[..count as usize];
         self.bytes(object, i, bytes);
         self.send(bytes);
@@ -61,13 +67,29 @@ impl<S: WordStore> Memory<S> {
         requires few { length self.old.sent + count ≤ MOST_SENT }
         ensures { self.new ≡ apply_effect (SendBytes (bytes_at self.old object i count)) self.old }
     {
+        if count as usize <= FEW {
+            self.send_piece::<FEW>(object, i, count);
+        } else {
+            self.send_pieces(object, i, count);
+        }
+    }
+
+    // The same of as many bytes as an answer may have.
+    #[inline(never)]
+    fn send_pieces(&mut self, object: Ref, i: u16, count: u16)
+        requires up { self.old.heap.down ≡ false }
+        requires there { IsObject self.old.heap.now object }
+        requires cells { i + count ≤ (facts self.old.heap.now object).length }
+        requires few { length self.old.sent + count ≤ MOST_SENT }
+        ensures { self.new ≡ apply_effect (SendBytes (bytes_at self.old object i count)) self.old }
+    {
         let _header = self.facts(object);
         if count <= SENT_AT_ONCE {
-            self.send_piece(object, i, count);
+            self.send_piece::<PIECE>(object, i, count);
             return;
         }
-        self.send_piece(object, i, SENT_AT_ONCE);
-        self.send_elements(object, i + SENT_AT_ONCE, count - SENT_AT_ONCE);
+        self.send_piece::<PIECE>(object, i, SENT_AT_ONCE);
+        self.send_pieces(object, i + SENT_AT_ONCE, count - SENT_AT_ONCE);
     }
 
     /// Whether its image takes commands in the extended form: its APDU buffer is longer than usual.

@@ -11,6 +11,7 @@ use jc_words::WordStore;
 impl<S: WordStore> Memory<S> {
     /// Sets the first cells of an object that this event clears: to these bytes, and the next `zeros` cells
     /// to zero.
+    #[inline(always)]
     pub fn fill(&mut self, object: Ref, event: ClearEvent, bytes: &[u8], zeros: u16)
         requires up { self.old.heap.down ≡ false }
         requires there { IsObject self.old.heap.now object }

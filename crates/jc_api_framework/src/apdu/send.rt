@@ -35,6 +35,7 @@ fn expected_of<S: WordStore>(memory: &Memory<S>) -> u16
 }
 
 // Begins to send, once, at most this many bytes.
+#[inline(always)]
 fn set_outgoing<S: WordStore>(most: u16, memory: &mut Memory<S>) -> Result<NativeResult, StepExit>
     ensures { Executes (set_outgoing_in_phase memory.old (phase_of memory.old) most) memory.old
         (after_call result memory.new) }
@@ -51,6 +52,7 @@ fn set_outgoing<S: WordStore>(most: u16, memory: &mut Memory<S>) -> Result<Nativ
 
 /// `APDU.setOutgoing`: begins to send, once; returns how many bytes the command expects.
 #[tactic(auto, unfolding(crate::specs::Apdu::apdu_set_outgoing))]
+#[inline(always)]
 pub(crate) fn apdu_set_outgoing<S: WordStore>(
     memory: &mut Memory<S>,
 ) -> Result<NativeResult, StepExit>
@@ -184,7 +186,7 @@ fn send_in_phase<S: WordStore>(
 
 /// `APDU.sendBytes`: sends bytes of the buffer, after `setOutgoingLength`.
 #[tactic(auto, unfolding(crate::specs::Apdu::apdu_send_bytes))]
-#[inline(never)]
+#[inline(always)]
 pub(crate) fn apdu_send_bytes<S: WordStore>(
     start: i16,
     count: i16,
@@ -203,7 +205,7 @@ pub(crate) fn apdu_send_bytes<S: WordStore>(
 /// `APDU.setOutgoingAndSend`: `setOutgoing`, `setOutgoingLength` and `sendBytes` in a row. What passed before
 /// one of them throws stays.
 #[tactic(auto, unfolding(crate::specs::Apdu::apdu_set_outgoing_and_send))]
-#[inline(never)]
+#[inline(always)]
 pub(crate) fn apdu_set_outgoing_and_send<S: WordStore>(
     start: i16,
     count: i16,
