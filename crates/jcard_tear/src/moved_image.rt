@@ -1,5 +1,5 @@
 //! The image that a recovery left: the one before it, moved to its words, or else read anew.
-ghost use Rattle.std.specs.Prelude.{◌≡◌, ◌<◌, ◌≤◌, length, IfSome};
+ghost use Rattle.std.specs.Prelude.{◌<◌, ◌≤◌, length, IsTrue, IfSome};
 ghost use Rattle.jcard_tear.specs.KeptCard.{HoldOneHeap};
 ghost use Rattle.jcard_tear.specs.Runs.{IsRecovered};
 
@@ -37,7 +37,7 @@ pub(crate) fn moved(image: PoweredImage, found: &[u16]) -> Option<PoweredImage>
 /// Whether the words of an image hold the heap of these.
 pub(crate) fn stands_for(image: &PoweredImage, found: &[u16]) -> bool
     requires { length found.now < 65536 }
-    ensures { result ≡ true → HoldOneHeap image.now found.now × IsRecovered image.now }
+    ensures { IsTrue result → HoldOneHeap image.now found.now × IsRecovered image.now }
 {
     hold_one_heap(image.words(), found)
 }
