@@ -567,7 +567,7 @@ fn found_at(
     found_below(own, class, token, method, linked)
 }
 
-// It belongs to the runtime environment, code of an applet or a package runs, and no deselection clears it: a virtual call goes on in the
+// An object of the runtime environment that no deselection clears, while code of an applet or a package runs: a virtual call goes on in the
 // runtime environment's context.
 #[tactic(auto, using(jc_world::proofs::Services::switched))]
 #[inline(always)]
@@ -586,8 +586,8 @@ fn is_service<S: WordStore>(facts: Facts, memory: &Memory<S>) -> bool
     !runs_for_runtime && facts.owner().0 == 0 && !is_cleared
 }
 
-// The owner for whom a method of the platform runs that a virtual call on an object with this header runs, where that is another one than the
-// caller's; nothing where a rule refuses the call.
+// The owner for whom a virtual call on an object with this header runs, where that is another one than the caller's; nothing where a rule
+// refuses the call.
 #[inline(always)]
 fn native_owner<S: WordStore>(
     header: Facts,

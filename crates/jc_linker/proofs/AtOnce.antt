@@ -1,5 +1,5 @@
 -- Methods that a loaded class, or the class right above it, has.
-use Rattle.std.proofs.Common.{◌≡◌, ◌∙◌, ℕ, suc, ◌-◌, ◌/◌, ◌==◌, ◌||◌, true, false, Option, None, Some, if◌then◌else◌, refl, arith}
+use Rattle.std.proofs.Common.{◌≡◌, ◌∙◌, ℕ, suc, ◌-◌, ◌/◌, ◌==◌, true, false, Option, None, Some, if◌then◌else◌, refl, arith}
 use Rattle.std.specs.Prelude.{nat_lt, slice_get}
 use Rattle.std.proofs.lemmas.Bool.{or_right}
 use Rattle.jc_cap.specs.declared.pool.VirtualToken.TheVariants.{Public}

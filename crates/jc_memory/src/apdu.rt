@@ -12,6 +12,7 @@ use jc_words::WordStore;
 // How many bytes are read at once where they are sent.
 const SENT_AT_ONCE: u16 = 256;
 
+// The same as the size of a room.
 const PIECE: usize = SENT_AT_ONCE as usize;
 
 // How many bytes most answers have at most.

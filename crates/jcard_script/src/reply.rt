@@ -115,6 +115,7 @@ fn armed_bytes(k: u16, room: &mut [u8; 1018]) -> &[u8] {
 }
 
 /// Writes a reply as its line of text, where the card's last response is this; nothing for a silent one.
+#[inline(always)]
 pub(crate) fn write_reply<W: TextOut>(
     reply: Reply,
     response: &Response,
@@ -188,13 +189,18 @@ fn write_second<W: TextOut>(second: Option<SecondFault>, writer: &mut W) -> Resu
 }
 
 // Writes a response in hexadecimal, and a line feed.
+#[inline(always)]
 fn write_response<W: TextOut>(response: &Response, writer: &mut W) -> Result<(), WriteFailed>
     ensures text { MatchResult result
         (λ _. Appends (W.contents writer.old) (W.contents writer.new) (text_of response.now))
         (λ _. AppendsCut (W.contents writer.old) (W.contents writer.new) (text_of response.now)) }
     ensures count { W.failures writer.new ≡ failures_after (W.failures writer.old) (is_err result) }
 {
-    write_line(response.as_bytes(), writer)
+    let bytes = response.as_bytes();
+    if bytes.len() <= FEW {
+        return write_few(bytes, writer);
+    }
+    write_line(bytes, writer)
 }
 
 // Writes bytes in hexadecimal, and a line feed.
@@ -204,9 +210,6 @@ fn write_line<W: TextOut>(bytes: &[u8], writer: &mut W) -> Result<(), WriteFaile
         (λ _. AppendsCut (W.contents writer.old) (W.contents writer.new) (text_of bytes.now)) }
     ensures count { W.failures writer.new ≡ failures_after (W.failures writer.old) (is_err result) }
 {
-    if bytes.len() <= FEW {
-        return write_few(bytes, writer);
-    }
     if bytes.len() <= AT_ONCE {
         return write_last(bytes, writer);
     }

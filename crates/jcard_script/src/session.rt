@@ -384,6 +384,7 @@ impl<S: WordStore + Drop> Session<S> {
     }
 
     // Writes a reply, and tells who asks what the command did that was answered so, if one was.
+    #[inline(always)]
     fn write<W: TextOut, E: Explainer>(
         &self,
         reply: Reply,
@@ -406,6 +407,7 @@ impl<S: WordStore + Drop> Session<S> {
     }
 
     // Tells who asks what the command did that was answered so, if one was, and what was answered.
+    #[inline(always)]
     fn tell_about<E: Explainer>(&self, reply: Reply, explainer: &mut E)
         requires held { IsState self.now.held }
     {
@@ -492,6 +494,7 @@ impl<S: WordStore + Drop> Session<S> {
     }
 
     // What is to be written for a command: the card's response; `down` where the card is down, or goes down at it.
+    #[inline(always)]
     fn exchange<E: Explainer>(&mut self, command: &[u8], explainer: &E) -> Reply
         requires held { IsState self.old.held }
         ensures held { IsState self.new.held }
