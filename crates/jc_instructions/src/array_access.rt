@@ -64,10 +64,10 @@ fn element_write<S: WordStore>(
     Ok(())
 }
 
-/// `aaload`, `baload`, `saload`: pushes the element with the index on top, of the array below it.
+/// `aaload`, `baload`, `saload`: pushes the element with the index on top, of the array below it. It throws and faults as `array_instruction`.
 #[inline(always)]
 #[tactic(auto, unfolding(crate::specs::ArrayAccess::array_load))]
-pub(crate) fn array_load<S: WordStore>(
+pub fn array_load<S: WordStore>(
     of_type: ValueType,
     frames: &mut Frames,
     memory: &Memory<S>,
@@ -82,10 +82,10 @@ pub(crate) fn array_load<S: WordStore>(
     element_read(of_type, reference, index, frames, memory, linked)
 }
 
-/// `aastore`, `bastore`, `sastore`: pops a value into an element.
+/// `aastore`, `bastore`, `sastore`: pops a value into an element. It throws and faults as `array_instruction`.
 #[inline(always)]
 #[tactic(auto, unfolding(crate::specs::ArrayAccess::array_store))]
-pub(crate) fn array_store<S: WordStore>(
+pub fn array_store<S: WordStore>(
     of_type: ValueType,
     frames: &mut Frames,
     memory: &mut Memory<S>,

@@ -24,6 +24,7 @@ mod static_images;
 pub mod throw;
 mod type_checks;
 
+pub use array_access::{array_load, array_store};
 pub use array_ops::array_instruction;
 pub use field_ops::field_instruction;
 pub use object_creation::new_instance;

@@ -1,5 +1,6 @@
 //! What is left of a step where frames alone do not go on, and the exception that it throws.
 ghost use Rattle.std.specs.Prelude.{◌≡◌, ◌<◌, ◌^◌, ◌==◌, false, length, if◌then◌else◌, Ok, Err};
+ghost use Rattle.jc_frames.specs.declared.instr.ArrayOp.TheVariants.{Load, Store};
 ghost use Rattle.jc_frames.specs.declared.instr.Instr.TheVariants.{Array, Return};
 ghost use Rattle.jc_instructions.specs.MethodReturn.{method_return};
 ghost use Rattle.jc_frames.specs.declared.outcome.Outcome.TheVariants.{Fault};
@@ -12,12 +13,14 @@ ghost use Rattle.jc_interp.specs.PausedSteps.{step_rest, memory_instruction, pau
 
 use crate::calling::invoke_instruction;
 use crate::frames_only::{FramesExit, PausedStep};
-use jc_frames::instr::{ArrayOp, Instr, ObjectOp, ReturnOp};
+use jc_frames::instr::{ArrayOp, Instr, ObjectOp, ReturnOp, ValueType};
 use jc_frames::{Frames, Outcome};
 use jc_instructions::method_component::method_component_of;
 use jc_instructions::method_return::return_to_caller;
 use jc_instructions::throw::{athrow, throw};
-use jc_instructions::{array_instruction, checkcast, field_instruction, instanceof, new_instance};
+use jc_instructions::{
+    array_instruction, array_load, array_store, checkcast, field_instruction, instanceof, new_instance,
+};
 use jc_linker::linked::Linked;
 use jc_memory::Memory;
 use jc_words::WordStore;
@@ -87,8 +90,44 @@ fn return_if_had<S: WordStore>(
     }
 }
 
-// Makes an array, or reads or writes its elements, if the code is a package's.
+// Reads an element, if the code is a package's.
+#[tactic(auto, unfolding(jc_instructions::specs::ArrayOps::array_instruction))]
 #[inline(always)]
+fn load_of_package<S: WordStore>(
+    of_type: ValueType,
+    frames: &mut Frames,
+    memory: &mut Memory<S>,
+    linked: &Linked,
+) -> Result<(), StepExit>
+    requires up { memory.old.heap.down ≡ false }
+    ensures { Executes (if_had (Array (Load of_type)) frames.old (array_instruction (Load of_type)
+        linked.now frames.old memory.old)) memory.old (after_instruction result frames.new
+        memory.new) }
+{
+    in_package(frames)?;
+    array_load(of_type, frames, memory, linked)
+}
+
+// Writes an element, if the code is a package's.
+#[tactic(auto, unfolding(jc_instructions::specs::ArrayOps::array_instruction))]
+#[inline(always)]
+fn store_of_package<S: WordStore>(
+    of_type: ValueType,
+    frames: &mut Frames,
+    memory: &mut Memory<S>,
+    linked: &Linked,
+) -> Result<(), StepExit>
+    requires up { memory.old.heap.down ≡ false }
+    ensures { Executes (if_had (Array (Store of_type)) frames.old (array_instruction (Store of_type)
+        linked.now frames.old memory.old)) memory.old (after_instruction result frames.new
+        memory.new) }
+{
+    in_package(frames)?;
+    array_store(of_type, frames, memory, linked)
+}
+
+// Makes an array or pushes its length, if the code is a package's, out of line.
+#[inline(never)]
 fn array_of_package<S: WordStore>(
     operation: ArrayOp,
     frames: &mut Frames,
@@ -121,12 +160,8 @@ fn execute<S: WordStore>(
     match instr {
         Instr::Return(how) => return_if_had(*how, frames, memory),
         Instr::Field(field) => field_instruction(*field, frames, memory, linked),
-        Instr::Array(ArrayOp::Load(of_type)) => {
-            array_of_package(ArrayOp::Load(*of_type), frames, memory, linked)
-        }
-        Instr::Array(ArrayOp::Store(of_type)) => {
-            array_of_package(ArrayOp::Store(*of_type), frames, memory, linked)
-        }
+        Instr::Array(ArrayOp::Load(of_type)) => load_of_package(*of_type, frames, memory, linked),
+        Instr::Array(ArrayOp::Store(of_type)) => store_of_package(*of_type, frames, memory, linked),
         Instr::Array(operation) => array_of_package(*operation, frames, memory, linked),
         Instr::Object(operation) => {
             in_package(frames)?;
