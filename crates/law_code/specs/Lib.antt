@@ -1,3 +1,11 @@
+pub mod Classes
+pub mod Methods
+pub mod Platform
+pub mod LinkedPackages
+pub mod ResolutionLaws
+pub mod ReadPackages
+pub mod ClassLaws
+pub mod MethodLaws
 pub mod Reach
 pub mod FrameReferences
 pub mod Bytes

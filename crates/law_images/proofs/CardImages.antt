@@ -11,7 +11,7 @@ use Rattle.jc_heap.proofs.RawWords.{head_is, recovered-head}
 use Rattle.jc_image.specs.declared.laying.ImageRoom.{ImageRoom}
 use Rattle.jc_image.specs.Laying.{unsealed_heap}
 use Rattle.jc_linker.specs.Values.{Packages}
-use Rattle.law_linking.proofs.Bytes.{have_bytes}
+use Rattle.law_code.proofs.ByteTokens.{have_bytes}
 use Rattle.jc_platform.proofs.NamesTold.{names_told}
 use Rattle.jc_platform.specs.Table.{Reads}
 use Rattle.jc_platform.specs.Tokens.{Tokens}

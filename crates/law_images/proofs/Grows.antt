@@ -14,8 +14,8 @@ use Rattle.jc_linker.specs.Values.{PackageValue, Packages}
 use Rattle.jc_linker.specs.Linking.{next_number, with_package}
 use Rattle.jc_packages.specs.Objects.{HoldsValues, fits_class, has_value, is_instance, is_object_address}
 use Rattle.jc_packages.specs.Sound.{HoldsStatics, IsRegistered, entry_word, package_record_at}
-use Rattle.law_linking.specs.ResolutionLaws.{ClassStays, Stays}
-use Rattle.law_linking.proofs.ResolutionLaws.{adding_keeps}
+use Rattle.law_code.specs.ResolutionLaws.{ClassStays, Stays}
+use Rattle.law_code.proofs.ResolutionLaws.{adding_keeps}
 use Rattle.law_soundness.specs.MemoryLaws.State.{IsFitObject, IsSoundUpTo}
 use Rattle.law_images.specs.Growth.{GrowthKeepsSound}
 use Rattle.law_images.proofs.Names.{a_beside, class_beside}

@@ -14,10 +14,10 @@ use Rattle.jc_packages.specs.PendingPackages.{PendingPackageValue, linked_compon
 use Rattle.jc_packages.specs.Reading.{load_of, packages_of, with_prepared, with_records}
 use Rattle.jc_packages.specs.LinkerView.{linker_view}
 use Rattle.jc_packages.specs.declared.load_refusal.LoadRefusal.{LoadRefusal}
-use Rattle.law_linking.specs.LinkedPackages.{AreLinkedAgainst, IsLinkedAgainst}
-use Rattle.law_linking.proofs.LinkAnswers.{some_value}
-use Rattle.law_linking.proofs.Lists.{AllOf, IfThere, all_at}
-use Rattle.law_linking.specs.ReadPackages.{HasAppletComponent, HasByteTokens, HasClassComponent}
+use Rattle.law_code.specs.LinkedPackages.{AreLinkedAgainst, IsLinkedAgainst}
+use Rattle.law_code.proofs.LinkAnswers.{some_value}
+use Rattle.law_code.proofs.Lists.{AllOf, IfThere, all_at}
+use Rattle.law_code.specs.ReadPackages.{HasAppletComponent, HasByteTokens, HasClassComponent}
 use Rattle.law_images.specs.GrowthLaws.{AreWords, RecordsAreRead}
 use Rattle.law_images.proofs.Prepares.{IsPrepared, prepares}
 use Rattle.law_images.proofs.GrowthTexts.{IsOfBytes, applet_component, applets_said, assembled_applets, class_component, few_classes, text_bytes}

@@ -25,9 +25,9 @@ use Rattle.jc_cap.specs.ComponentReading.{applets_in, classes_in, directory_in, 
 use Rattle.jc_cap.specs.PackageReading.{contents_of}
 use Rattle.jc_cap.proofs.Named.{is_assembled}
 use Rattle.jc_packages.specs.Reading.{text_at, text_in}
-use Rattle.law_linking.proofs.ClosedPackages.{anything}
-use Rattle.law_linking.proofs.Lists.{IfThere, map_there}
-use Rattle.law_linking.specs.ReadPackages.{HasAppletComponent}
+use Rattle.law_code.proofs.ClosedPackages.{anything}
+use Rattle.law_code.proofs.Lists.{IfThere, map_there}
+use Rattle.law_code.specs.ReadPackages.{HasAppletComponent}
 use Rattle.law_images.specs.GrowthLaws.{AreWords}
 use Rattle.law_images.proofs.RecordPackages.{has_all}
 

@@ -8,7 +8,7 @@ use Rattle.jc_platform.specs.Platform.{class_by_word}
 use Rattle.jc_linker.specs.Classes.{any_is, class_in, implements, interfaces_in, is_below, is_class, lineage_from, most_classes, superclass_in, is_a}
 use Rattle.jc_linker.specs.Values.{Packages}
 use Rattle.jc_linker.specs.Linking.{next_number}
-use Rattle.law_linking.proofs.Numbers.{class_stands, stands_beside, word_high}
+use Rattle.law_code.proofs.Numbers.{class_stands, stands_beside, word_high}
 
 none_of : {A : Type 0} (o : Option A) → is_some o ≡ false → o ≡ None
 none_of None e = refl

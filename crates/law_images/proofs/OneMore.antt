@@ -6,10 +6,10 @@ use Rattle.jc_linker.specs.Values.{PackageValue, Packages}
 use Rattle.jc_linker.specs.Values.{LinkerComponents}
 use Rattle.jc_linker.specs.Linking.{with_package}
 use Rattle.jc_packages.specs.LinkerView.{linker_view}
-use Rattle.law_linking.specs.LinkedPackages.{AreLinkedAgainst, IsLinkedAgainst}
-use Rattle.law_linking.proofs.LinkAnswers.{some_value}
-use Rattle.law_linking.proofs.Lists.{IfThere}
-use Rattle.law_linking.specs.ReadPackages.{HasAppletComponent, HasClassComponent}
+use Rattle.law_code.specs.LinkedPackages.{AreLinkedAgainst, IsLinkedAgainst}
+use Rattle.law_code.proofs.LinkAnswers.{some_value}
+use Rattle.law_code.proofs.Lists.{IfThere}
+use Rattle.law_code.specs.ReadPackages.{HasAppletComponent, HasClassComponent}
 use Rattle.law_images.specs.Growth.{GrowthKeepsRead}
 use Rattle.law_images.proofs.Prepares.{prepares}
 use Rattle.law_images.proofs.GrowthRecords.{components_good, linked_onto}

@@ -15,7 +15,7 @@ use Rattle.jc_heap.specs.Package.{AreComponents, is_array_init}
 use Rattle.jc_linker.specs.Lookups.{package_with_aid}
 use Rattle.jc_linker.specs.Values.{PackageValue, Packages}
 use Rattle.jc_linker.specs.Linking.{link_result}
-use Rattle.law_linking.proofs.LinkAnswers.{made}
+use Rattle.law_code.proofs.LinkAnswers.{made}
 use Rattle.jc_packages.specs.declared.load_refusal.LoadRefusal.{LoadRefusal}
 use Rattle.jc_packages.specs.declared.load_refusal.LoadRefusal.TheVariants.{AidTaken, Full}
 use Rattle.jc_packages.specs.RecordContents.{array_of, kind_of, parts_of, statics_of, zeros_of}

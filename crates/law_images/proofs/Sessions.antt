@@ -33,9 +33,9 @@ use Rattle.jc_card.specs.State.Power.{KeptState, PowerState, Up, Off, armed, arm
 use Rattle.jc_card.specs.declared.planned_fault.PlannedFault.{PlannedFault}
 use Rattle.jc_card.specs.Session.Serving.{AnswersCommand, AnswersReset, Serves, SessionRun}
 use Rattle.jc_card.specs.Session.Starting.{IsPoweredUp}
-use Rattle.law_linking.proofs.Aids.{have_aids}
-use Rattle.law_linking.proofs.ClassLaws.{have_classes}
-use Rattle.law_linking.proofs.MethodLaws.{have_methods, have_no_code}
+use Rattle.law_code.proofs.Aids.{have_aids}
+use Rattle.law_code.proofs.ClassLaws.{have_classes}
+use Rattle.law_code.proofs.MethodLaws.{have_methods, have_no_code}
 use Rattle.law_images.specs.LoadedPackages.{AreBytes}
 use Rattle.law_images.proofs.OpenLoads.{are_readable}
 use Rattle.law_soundness.specs.MemoryLaws.State.{IsSoundMemory, IsSoundUpTo}

@@ -5,7 +5,7 @@ use Rattle.jc_heap.specs.Walk.{Sizes, records_from, entry_or}
 use Rattle.jc_heap.specs.Heap.{heap_item_at, read_image}
 use Rattle.jc_heap.specs.Image.{base, image, is_package, item, item_entry, package_addresses, records, sizes}
 use Rattle.jc_heap.specs.Object.{Item, AnObject, APackage, object_of}
-use Rattle.law_linking.proofs.Lists.{AllOf}
+use Rattle.law_code.proofs.Lists.{AllOf}
 use Rattle.law_images.specs.GrowthLaws.{AreWords, ImagesHaveWords}
 
 no_words : AreWords []

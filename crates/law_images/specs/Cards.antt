@@ -4,7 +4,7 @@ use Rattle.jc_platform.specs.Tokens.{Tokens}
 use Rattle.jc_linker.specs.Values.{Packages}
 use Rattle.jc_linker.specs.Values.{LinkerComponents}
 use Rattle.jc_card.specs.Card.{CardState}
-use Rattle.law_linking.specs.ReadPackages.{AreRead}
+use Rattle.law_code.specs.ReadPackages.{AreRead}
 use Rattle.law_images.specs.GrowthLaws.{HaveAppletComponents}
 use Rattle.jc_card.specs.Session.Requests.{Request, Command, Reset, ArmFuse, PlanFault, Reply}
 use Rattle.jc_card.specs.State.Power.{PowerState, Up, Off, KeptState}

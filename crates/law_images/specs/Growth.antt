@@ -6,8 +6,8 @@ use Rattle.jc_linker.specs.Values.{Packages}
 use Rattle.jc_linker.specs.Values.{LinkerComponents}
 use Rattle.jc_linker.specs.Linking.{with_package}
 use Rattle.jc_packages.specs.PendingPackages.{PendingPackageValue, linked_components}
-use Rattle.law_linking.specs.LinkedPackages.{AreLinked}
-use Rattle.law_linking.specs.ReadPackages.{AreRead}
+use Rattle.law_code.specs.LinkedPackages.{AreLinked}
+use Rattle.law_code.specs.ReadPackages.{AreRead}
 use Rattle.law_soundness.specs.MemoryLaws.State.{IsSoundUpTo}
 use Rattle.law_images.specs.GrowthLaws.{HaveAppletComponents}
 

@@ -7,7 +7,7 @@ use Rattle.jc_linker.specs.Values.{Packages}
 use Rattle.jc_linker.specs.Values.{LinkerComponents}
 use Rattle.jc_packages.specs.Reading.{packages_of}
 use Rattle.jc_packages.specs.Sound.{package_record_at}
-use Rattle.law_linking.specs.ReadPackages.{AreRead, HasAppletComponent, HasByteTokens}
+use Rattle.law_code.specs.ReadPackages.{AreRead, HasAppletComponent, HasByteTokens}
 
 -- words of 16 bits
 abbrev pub AreWords : List ℕ → Type 0

@@ -11,7 +11,7 @@ use Rattle.jc_memory.specs.State.{MemoryState, Effect, HeapMove, apply_effect}
 use Rattle.jc_linker.specs.Values.{Packages}
 use Rattle.jc_linker.specs.Values.{LinkerComponents}
 use Rattle.jc_linker.specs.Linking.{with_package}
-use Rattle.law_linking.specs.LinkedPackages.{AreLinked}
+use Rattle.law_code.specs.LinkedPackages.{AreLinked}
 use Rattle.jc_packages.specs.RecordContents.{arrays_of, image_of, parts_of, statics_of}
 use Rattle.jc_packages.specs.PendingPackages.{PendingPackageValue, linked_components}
 use Rattle.law_soundness.specs.MachineLaws.Commands.{IsServed}

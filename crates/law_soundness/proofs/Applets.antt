@@ -43,8 +43,8 @@ use Rattle.jc_world.proofs.Below.{below_itself}
 use Rattle.jc_api_framework.specs.Aid.Cells.{cells_of_aid, is_aid_length}
 use Rattle.jc_api_framework.specs.Applet.{install_aid}
 use Rattle.jc_api_framework.specs.Applet.Register.{is_owned, next_number, open_installation, with_installation}
-use Rattle.law_linking.proofs.Facts.{numbers_before}
-use Rattle.law_linking.specs.Classes.{HasAids, KnowsClasses}
+use Rattle.law_code.proofs.ClassFacts.{numbers_before}
+use Rattle.law_code.specs.Classes.{HasAids, KnowsClasses}
 use Rattle.law_soundness.specs.MemoryLaws.Fit.{AreCellsOf, FitsNew, FitsObject, FitsRun, FitsTurn, IsFit, KeepsSound, OfRegistry, RegistersApplet}
 use Rattle.law_soundness.specs.MemoryLaws.State.{IsSoundMemory, IsSteady, is_home, is_open, is_owner_up_to}
 use Rattle.jc_api.proofs.Reaching.{header_is}

@@ -26,7 +26,7 @@ use Rattle.jc_world.specs.Types.{class_named, class_of}
 use Rattle.jc_world.specs.Values.{keepable}
 use Rattle.jc_instructions.specs.ArrayElements.{assignable_or_null, element_value, has_elements, element_if_assignable}
 use Rattle.jc_instructions.specs.ArrayCreation.{kind_of}
-use Rattle.law_linking.specs.Classes.{KnowsClasses}
+use Rattle.law_code.specs.Classes.{KnowsClasses}
 use Rattle.law_soundness.specs.MemoryLaws.Fit.{FitsFill, FitsValue, IsFit}
 use Rattle.law_soundness.specs.MemoryLaws.State.{IsLivingValue, IsSoundMemory, IsSteady}
 use Rattle.law_code.proofs.Instructions.{arrays_due}

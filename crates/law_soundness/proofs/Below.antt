@@ -9,8 +9,8 @@ use Rattle.jc_platform.specs.Hierarchy.{carries_reason, cells_of, holds_referenc
 use Rattle.jc_platform.specs.Names.{classes}
 use Rattle.jc_linker.specs.Values.{Packages}
 use Rattle.jc_linker.specs.Classes.{is_a}
-use Rattle.law_linking.proofs.Facts.{either, of_each}
-use Rattle.law_linking.specs.Classes.{IsPlatformBelow, Itself, Above, KnowsClasses, has_instances}
+use Rattle.law_code.proofs.ClassFacts.{either, of_each}
+use Rattle.law_code.specs.Classes.{IsPlatformBelow, Itself, Above, KnowsClasses, has_instances}
 
 abbrev pub is_aid : PlatformClass → Bool
 is_aid Aid = true

@@ -21,7 +21,7 @@ use Rattle.law_soundness.specs.MemoryLaws.Fit.{IsFit}
 use Rattle.law_soundness.specs.MemoryLaws.State.{IsSoundMemory, is_owner_up_to, most_owner}
 use Rattle.law_soundness.specs.MachineLaws.Natives.{IsReceiver}
 use Rattle.law_soundness.proofs.Natives.{natives_are_fit}
-use Rattle.law_linking.specs.Methods.{KnowsMethods}
+use Rattle.law_code.specs.Methods.{KnowsMethods}
 use Rattle.law_soundness.specs.MachineLaws.Steps.{AsksFit, CallsFit, IsSoundInvoke, callee_of}
 use Rattle.law_soundness.proofs.Arguments.{receiver_first}
 use Rattle.law_soundness.proofs.LivingReferences.{arguments_living}

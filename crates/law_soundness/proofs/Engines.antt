@@ -32,7 +32,7 @@ use Rattle.jc_api.specs.declared.factory.StateKind.TheVariants.{Bytes, Shorts}
 use Rattle.jc_api.proofs.EngineRoom.{with_array}
 use Rattle.jc_api.proofs.Passing.{IsTransientArray}
 use Rattle.jc_api.proofs.Standing.{item_after_object, object-set_cell}
-use Rattle.law_linking.specs.Classes.{KnowsClasses, has_instances}
+use Rattle.law_code.specs.Classes.{KnowsClasses, has_instances}
 use Rattle.law_soundness.specs.MemoryLaws.Fit.{AreCellsOf, FitsCell, FitsNew, FitsValue, IsFit}
 use Rattle.law_soundness.specs.MemoryLaws.State.{IsSoundMemory, IsSteady}
 use Rattle.law_soundness.proofs.Effects.{keeps_sound}

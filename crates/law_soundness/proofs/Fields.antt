@@ -17,7 +17,7 @@ use Rattle.jc_instructions.specs.FieldNames.{is_type_of_cell}
 use Rattle.law_code.proofs.Instructions.{fields_due}
 use Rattle.law_code.proofs.EffectConditions.{FieldsPass}
 use Rattle.law_code.proofs.AccessChecks.{IsCell, Names}
-use Rattle.law_linking.specs.Classes.{KnowsClasses}
+use Rattle.law_code.specs.Classes.{KnowsClasses}
 use Rattle.law_soundness.specs.MemoryLaws.Fit.{FitsCell, FitsValue, IsFit, OfPlaces}
 use Rattle.law_soundness.specs.MemoryLaws.State.{IsSoundMemory}
 use Rattle.law_soundness.specs.MachineLaws.Groups.{FieldsFit}

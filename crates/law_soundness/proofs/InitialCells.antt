@@ -23,7 +23,7 @@ use Rattle.jc_api.specs.Initializing.{AreFields, FieldsAnswer, word_given, words
 use Rattle.jc_api.specs.declared.initializing.FieldValue.{FieldValue}
 use Rattle.jc_api.specs.declared.initializing.FieldValue.TheVariants.{Argument, Word}
 use Rattle.jc_api.proofs.Passing.{IsInitializing}
-use Rattle.law_linking.specs.Classes.{KnowsClasses}
+use Rattle.law_code.specs.Classes.{KnowsClasses}
 use Rattle.law_soundness.specs.MemoryLaws.Fit.{FitsRun}
 use Rattle.law_soundness.specs.LivingReferences.{AreLivingCells, IsLivingCell}
 use Rattle.law_soundness.specs.MemoryLaws.State.{IsSoundMemory}

@@ -10,14 +10,14 @@ use Rattle.jc_frames.specs.declared.instr.ObjectOp.{ObjectOp}
 use Rattle.jc_frames.specs.declared.instr.ObjectOp.TheVariants.{New, Athrow, CheckCast, InstanceOf}
 use Rattle.jc_frames.specs.Frames.{Frames}
 use Rattle.jc_interp.specs.Step.{instruction_at, object_instruction}
-use Rattle.law_linking.specs.Classes.{KnowsClasses}
+use Rattle.law_code.specs.Classes.{KnowsClasses}
 use Rattle.law_soundness.specs.MemoryLaws.Fit.{IsFit}
 use Rattle.law_soundness.proofs.Arrays.{arrays_are_fit}
 use Rattle.law_soundness.proofs.Fields.{fields_are_fit}
 use Rattle.law_soundness.proofs.Machines.{sound_callers}
 use Rattle.law_soundness.proofs.ObjectInstructions.{objects_are_fit}
 use Rattle.law_soundness.specs.Machines.{IsSoundMachine}
-use Rattle.law_linking.specs.Methods.{KnowsMethods}
+use Rattle.law_code.specs.Methods.{KnowsMethods}
 use Rattle.law_soundness.specs.MachineLaws.Steps.{InstructionsFit}
 use Rattle.law_soundness.proofs.Leaves.{leaves_are_fit}
 

@@ -19,7 +19,7 @@ use Rattle.law_code.proofs.Walk.{AnyCell, LeavesPass, any_handed, returning, thr
 use Rattle.law_soundness.specs.MemoryLaws.Fit.{FitsFill, FitsTurn, IsFit}
 use Rattle.law_soundness.specs.MachineLaws.LocalEffects.{IsLocalEffect}
 use Rattle.law_soundness.specs.Machines.{KnowOwners}
-use Rattle.law_linking.specs.Methods.{KnowsMethods}
+use Rattle.law_code.specs.Methods.{KnowsMethods}
 use Rattle.law_soundness.specs.MemoryLaws.State.{IsSoundMemory, is_owner_up_to, most_owner}
 use Rattle.law_soundness.specs.MachineLaws.Steps.{LeavesFit}
 use Rattle.law_soundness.proofs.Effects.{keeps_sound}

@@ -39,7 +39,7 @@ use Rattle.law_code.proofs.EffectConditions.{ReadsSo}
 use Rattle.law_code.proofs.AccessChecks.{IsArray, IsCell, Names, array_reached, index_within}
 use Rattle.jc_api.proofs.Reaching.{err_not_ok}
 use Rattle.law_code.proofs.StackCells.{mapped_some}
-use Rattle.law_linking.specs.Classes.{KnowsClasses}
+use Rattle.law_code.specs.Classes.{KnowsClasses}
 use Rattle.law_soundness.specs.MemoryLaws.Environment.{HasEnvironment}
 use Rattle.law_soundness.specs.LivingReferences.{IsLivingCell}
 use Rattle.law_soundness.specs.MachineLaws.LocalEffects.{LocalEffectsStay}

@@ -16,7 +16,7 @@ use Rattle.law_soundness.specs.LivingReferences.{AreLivingCallers, AreLivingCell
 use Rattle.law_soundness.specs.MemoryLaws.State.{IsSoundMemory, IsSteady}
 use Rattle.law_soundness.specs.MachineLaws.LocalEffects.{LocalEffectsStay, IsLocalEffect}
 use Rattle.law_soundness.specs.Machines.{IsSoundMachine, KnowOwners}
-use Rattle.law_linking.specs.Methods.{KnowsMethods}
+use Rattle.law_code.specs.Methods.{KnowsMethods}
 use Rattle.law_soundness.specs.MachineLaws.Steps.{HasSoundCallers, InstructionsFit}
 use Rattle.law_soundness.specs.MachineLaws.Calls.{NativesLeave}
 use Rattle.law_soundness.specs.MachineLaws.Soundness.{IsSoundNext}

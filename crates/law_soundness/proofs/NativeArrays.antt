@@ -16,8 +16,8 @@ use Rattle.jc_linker.specs.Classes.{is_a}
 use Rattle.jc_world.specs.Instances.{IsInstanceWith}
 use Rattle.jc_api_framework.specs.Aid.Cells.{cells_of_aid, is_aid_length}
 use Rattle.jc_api.proofs.Stretches.{HoldsNumbers}
-use Rattle.law_linking.proofs.Facts.{numbers_before}
-use Rattle.law_linking.specs.Classes.{KnowsClasses}
+use Rattle.law_code.proofs.ClassFacts.{numbers_before}
+use Rattle.law_code.specs.Classes.{KnowsClasses}
 use Rattle.law_soundness.specs.MemoryLaws.Fit.{FitsRun, IsFit}
 use Rattle.law_soundness.specs.MemoryLaws.State.{IsSoundMemory}
 use Rattle.law_soundness.proofs.RunObjects.{instance_no_array, kept_fits}

@@ -41,7 +41,7 @@ use Rattle.jc_api_pairs.proofs.PairForms.{of_forms}
 use Rattle.jc_interp.proofs.Calls.{IsPlainMethod, method_called, method_then}
 use Rattle.law_code.proofs.Bytes.{store_due}
 use Rattle.law_code.proofs.Natives.{nine}
-use Rattle.law_linking.specs.Classes.{HasAids, KnowsClasses}
+use Rattle.law_code.specs.Classes.{HasAids, KnowsClasses}
 use Rattle.law_soundness.specs.MemoryLaws.Fit.{IsFit, IsPinObject, OfValue}
 use Rattle.law_soundness.specs.MemoryLaws.State.{IsSoundMemory, IsSteady}
 use Rattle.law_soundness.proofs.Effects.{keeps_sound}

@@ -16,8 +16,8 @@ use Rattle.jc_packages.specs.Objects.{fits_class}
 use Rattle.jc_world.specs.Types.{class_named}
 use Rattle.jc_instructions.specs.ObjectCreation.{instantiable_or_none, instantiable_class}
 use Rattle.law_soundness.specs.MemoryLaws.Fit.{IsFit}
-use Rattle.law_linking.proofs.Facts.{instantiable_is}
-use Rattle.law_linking.specs.Classes.{KnowsClasses}
+use Rattle.law_code.proofs.ClassFacts.{instantiable_is}
+use Rattle.law_code.specs.Classes.{KnowsClasses}
 use Rattle.law_soundness.specs.MemoryLaws.State.{IsSoundMemory, IsSteady}
 use Rattle.law_code.proofs.Instructions.{checked_due, examined_due, made_due}
 use Rattle.law_code.proofs.EffectConditions.{InstancesPass, new_for}

@@ -11,7 +11,7 @@ use Rattle.jc_memory.specs.State.{MemoryState}
 use Rattle.jc_linker.specs.Values.{Packages}
 use Rattle.law_soundness.specs.MemoryLaws.Fit.{FitsTurn}
 use Rattle.law_soundness.specs.MemoryLaws.State.{IsSoundMemory, is_home, is_open, is_owner_up_to, last_own, most_owner}
-use Rattle.law_linking.specs.Methods.{KnowsMethods}
+use Rattle.law_code.specs.Methods.{KnowsMethods}
 
 -- a number that an owner can have: a card has fewer than 256 applets, and few packages
 abbrev IsSmall : ℕ → Type 0

@@ -41,7 +41,7 @@ use Rattle.jc_api.proofs.Passing.{RefersToNew}
 use Rattle.jc_api.proofs.Reaching.{same_Ok}
 use Rattle.jc_api_pairs.proofs.PairForms.{AreOfPairs, FormsPass, IsOfPair, IsPairClass, IsPairNumber, IsReachedByte}
 use Rattle.jc_api_pairs.proofs.PairPasses.{AreReached}
-use Rattle.law_linking.specs.Classes.{KnowsClasses}
+use Rattle.law_code.specs.Classes.{KnowsClasses}
 use Rattle.law_soundness.specs.MemoryLaws.Fit.{FitPlaces, FitsPlace, IsFit, OfPlaces}
 use Rattle.law_soundness.specs.LivingReferences.{AreLivingCells}
 use Rattle.law_soundness.specs.MachineLaws.LocalEffects.{AreElsewhere}

@@ -42,11 +42,11 @@ use Rattle.jc_instructions.specs.Invoke.{call_decision, call_of, class_of, is_na
 use Rattle.jc_api.proofs.Reaching.{err_not_ok, object_is, same_Ok}
 use Rattle.jc_api.proofs.Stretches.{both_ok}
 use Rattle.law_code.proofs.MethodSelection.{Bare, Found, Named, Selected, is_there, selected}
-use Rattle.law_linking.specs.Classes.{KnowsClasses}
+use Rattle.law_code.specs.Classes.{KnowsClasses}
 use Rattle.law_soundness.specs.MemoryLaws.State.{IsSoundMemory, is_owner_up_to, last_own, most_owner}
 use Rattle.jc_platform.specs.Names.{aids_rows}
 use Rattle.jc_platform.specs.Signatures.{minds_receiver}
-use Rattle.law_linking.specs.Methods.{IsMethodOf, KnowsMethods}
+use Rattle.law_code.specs.Methods.{IsMethodOf, KnowsMethods}
 use Rattle.law_code.proofs.Facts.{minds_below_object, static_minds_none}
 use Rattle.law_soundness.proofs.Owners.{known_again, object_owner}
 

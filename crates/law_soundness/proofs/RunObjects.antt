@@ -20,7 +20,7 @@ use Rattle.jc_linker.specs.Values.{Packages}
 use Rattle.jc_packages.specs.Objects.{fits_class, is_instance, is_persistent_instance}
 use Rattle.jc_api.proofs.Passing.{Makes}
 pub use Rattle.law_code.proofs.AccessChecks.{instance_kind}
-use Rattle.law_linking.specs.Classes.{has_instances}
+use Rattle.law_code.specs.Classes.{has_instances}
 use Rattle.law_soundness.specs.MemoryLaws.Fit.{FitsFill, FitsNew, FitsValue, IsFit}
 use Rattle.law_soundness.specs.MemoryLaws.State.{IsLivingElement, IsLivingValue, IsSoundMemory, IsSteady, is_open, is_owner_up_to, last_own, most_new, most_owner}
 

@@ -21,8 +21,8 @@ use Rattle.jc_platform.specs.declared.names.PlatformClass.TheVariants.{Aid, Owne
 use Rattle.jc_platform.specs.Hierarchy.{cells_of, is_interface}
 use Rattle.jc_platform.specs.Names.{classes}
 use Rattle.jc_packages.specs.Objects.{is_byte_array, is_instance, is_persistent_instance, is_object_address}
-use Rattle.law_linking.proofs.Facts.{numbers_before}
-use Rattle.law_linking.specs.Classes.{KnowsClasses}
+use Rattle.law_code.proofs.ClassFacts.{numbers_before}
+use Rattle.law_code.specs.Classes.{KnowsClasses}
 use Rattle.law_soundness.specs.MemoryLaws.Fit.{IsFit, IsPinObject, OfPin}
 use Rattle.law_soundness.specs.MemoryLaws.State.{IsSoundMemory, IsSteady}
 use Rattle.jc_api_framework.proofs.Passing.{recorded}

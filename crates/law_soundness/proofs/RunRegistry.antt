@@ -23,7 +23,7 @@ use Rattle.jc_packages.specs.Objects.{fits_class, is_instance, is_persistent_ins
 use Rattle.jc_packages.specs.Sound.{aid_in, aid_of_entry, entry_word, holds_aid}
 use Rattle.jc_environment.specs.Aid.{aid_at, aid_behind, aid_of_cells}
 use Rattle.jc_environment.specs.Registry.{applet_count, applet_entry, applet_with_aid, aid_of_applet, first_with_aid, has_aid, is_aid, is_applet}
-use Rattle.law_linking.specs.Classes.{KnowsClasses}
+use Rattle.law_code.specs.Classes.{KnowsClasses}
 use Rattle.law_soundness.specs.MemoryLaws.State.{IsSoundMemory}
 use Rattle.law_soundness.proofs.RunObjects.{instance_kind, kept_behind}
 use Rattle.law_soundness.proofs.RunCells.{aid_of, none_found}

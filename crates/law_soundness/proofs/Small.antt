@@ -23,7 +23,7 @@ use Rattle.jc_platform.specs.Names.{classes}
 use Rattle.jc_packages.specs.Objects.{fits_class, is_instance}
 use Rattle.jc_world.specs.Instances.{IsInstanceWith}
 use Rattle.jc_api.specs.NewArrays.{class_for}
-use Rattle.law_linking.specs.Classes.{KnowsClasses}
+use Rattle.law_code.specs.Classes.{KnowsClasses}
 use Rattle.law_soundness.specs.MemoryLaws.Fit.{FitsNew, FitsValue, IsFit}
 use Rattle.law_soundness.specs.MemoryLaws.State.{IsSoundMemory, IsSteady, is_owner_up_to, most_new}
 use Rattle.jc_api.proofs.Passing.{IsTransientArray, Makes}

@@ -8,7 +8,7 @@ use Rattle.jc_platform.specs.Names.{classes}
 use Rattle.jc_platform.specs.declared.names.PlatformClass.{PlatformClass}
 use Rattle.jc_platform.specs.declared.names.PlatformClass.TheVariants.{Aid, OwnerPin}
 use Rattle.jc_api.specs.Factory.{HasState, state_cell}
-use Rattle.law_linking.specs.Classes.{KnowsClasses, has_instances}
+use Rattle.law_code.specs.Classes.{KnowsClasses, has_instances}
 
 module _ (p : Packages) (known : KnowsClasses p) (class : ℕ) (of : PlatformClass) (has : HasState of) (instances : has_instances p class ≡ true)
     (is : is_a p class of ≡ true) where

@@ -23,7 +23,7 @@ use Rattle.law_code.proofs.Walk.{IsHanded, LeavesPass}
 use Rattle.law_soundness.specs.MemoryLaws.Fit.{FitsTurn, IsFit}
 use Rattle.law_soundness.specs.LivingReferences.{AreLivingCells, IsLivingCell, IsLivingOutcome}
 use Rattle.law_soundness.specs.Machines.{IsSoundMachine}
-use Rattle.law_linking.specs.Methods.{KnowsMethods}
+use Rattle.law_code.specs.Methods.{KnowsMethods}
 use Rattle.law_soundness.specs.MachineLaws.Soundness.{IsSoundNext}
 use Rattle.law_soundness.proofs.Leaves.{back_fits, reason_fits}
 use Rattle.law_soundness.proofs.LivingReferences.{none_living}

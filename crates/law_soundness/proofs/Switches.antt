@@ -32,7 +32,7 @@ use Rattle.jc_api.proofs.Stretches.{both_ok}
 use Rattle.law_code.proofs.MethodSelection.{Bare, Found, Named, Selected, selected}
 use Rattle.law_soundness.specs.MemoryLaws.Environment.{HasEnvironment}
 use Rattle.law_soundness.specs.MemoryLaws.Fit.{IsPlatformClass}
-use Rattle.law_linking.specs.Platform.{KeepsPlatform}
+use Rattle.law_code.specs.Platform.{KeepsPlatform}
 use Rattle.law_soundness.proofs.Owners.{owner_zero}
 
 -- the class by which a method of an object is found is one of the platform

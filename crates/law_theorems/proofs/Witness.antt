@@ -31,7 +31,7 @@ use Rattle.jc_card.specs.Session.Starting.{IsPoweredUp}
 use Rattle.jc_card.proofs.Laid.{if_laid}
 use Rattle.law_soundness.specs.References.{MayBegin}
 use Rattle.law_soundness.proofs.LivingReferences.{first_living, none_living}
-use Rattle.law_linking.proofs.Bytes.{have_bytes}
+use Rattle.law_code.proofs.ByteTokens.{have_bytes}
 use Rattle.law_images.specs.Cards.{IsOwnKept}
 use Rattle.law_images.specs.Outcomes.{ComesTo}
 use Rattle.law_images.specs.Heaps.{IsOwnHeap}

@@ -12,7 +12,7 @@ use Rattle.jc_instructions.specs.FieldOps.{field_instruction}
 use Rattle.jc_instructions.specs.ArrayOps.{array_instruction}
 use Rattle.jc_instructions.specs.TypeChecks.{checkcast, instanceof}
 use Rattle.jc_instructions.specs.ObjectCreation.{new_instance}
-use Rattle.law_linking.specs.Classes.{KnowsClasses}
+use Rattle.law_code.specs.Classes.{KnowsClasses}
 use Rattle.law_soundness.specs.MemoryLaws.Fit.{IsFit}
 use Rattle.law_soundness.specs.MemoryLaws.State.{IsSoundMemory, IsSteady}
 

@@ -14,7 +14,7 @@ use Rattle.jc_packages.specs.Objects.{is_instance}
 use Rattle.jc_linker.specs.Classes.{is_a}
 use Rattle.jc_world.specs.Objects.{reference_argument}
 use Rattle.jc_interp.specs.Natives.{native_call}
-use Rattle.law_linking.specs.Classes.{HasAids, KnowsClasses}
+use Rattle.law_code.specs.Classes.{HasAids, KnowsClasses}
 use Rattle.law_soundness.specs.MemoryLaws.Environment.{HasEnvironment}
 use Rattle.law_soundness.specs.MemoryLaws.Fit.{IsFit}
 use Rattle.law_soundness.specs.LivingReferences.{AreLivingCells}

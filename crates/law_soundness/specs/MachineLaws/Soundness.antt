@@ -8,12 +8,12 @@ use Rattle.jc_interp.specs.declared.attacks.Attack.{Attack}
 use Rattle.jc_interp.specs.declared.attacks.FaultModel.{FaultModel}
 use Rattle.jc_interp.specs.Attacks.{attacked, attacked_step, faulted}
 use Rattle.jc_interp.specs.Run.{run_of}
-use Rattle.law_linking.specs.Classes.{HasAids, KnowsClasses}
+use Rattle.law_code.specs.Classes.{HasAids, KnowsClasses}
 use Rattle.law_soundness.specs.MemoryLaws.Fit.{IsFit}
 use Rattle.law_soundness.specs.LivingReferences.{IsLivingOutcome}
 use Rattle.law_soundness.specs.Machines.{IsSoundMachine}
-use Rattle.law_linking.specs.Methods.{KnowsMethods}
-use Rattle.law_linking.specs.Platform.{KeepsPlatform}
+use Rattle.law_code.specs.Methods.{KnowsMethods}
+use Rattle.law_code.specs.Platform.{KeepsPlatform}
 
 -- what is known of packages that were linked
 pub record AreKnown (p : Packages) : Type 0 where

@@ -24,11 +24,11 @@ use Rattle.jc_instructions.specs.MethodReturn.{method_return}
 use Rattle.jc_instructions.specs.Throw.{athrow, exception_throw}
 use Rattle.jc_interp.specs.Step.{instruction_at, is_plain}
 use Rattle.jc_world.specs.declared.native_result.ServerCall.{ServerCall}
-use Rattle.law_linking.specs.Classes.{HasAids, KnowsClasses}
+use Rattle.law_code.specs.Classes.{HasAids, KnowsClasses}
 use Rattle.law_soundness.specs.MemoryLaws.Fit.{IsFit}
 use Rattle.law_soundness.specs.MemoryLaws.State.{IsSoundMemory, is_owner_up_to, most_owner}
 use Rattle.law_soundness.specs.Machines.{IsSoundMachine, KnowOwners}
-use Rattle.law_linking.specs.Methods.{KnowsMethods}
+use Rattle.law_code.specs.Methods.{KnowsMethods}
 
 -- a method in bytecode that a call reaches
 abbrev pub callee_of : MethodCall → ℕ → ℕ → Callee

@@ -1,5 +1,0 @@
-use Rattle.law_linking.proofs.Aids.{have_aids}
-use Rattle.law_linking.proofs.class_laws.applets_of_linked_packages_have_aids.Goals as goal
-
-pub returns : goal.returns
-returns c = have_aids

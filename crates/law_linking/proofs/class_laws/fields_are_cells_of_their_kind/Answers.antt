@@ -1,5 +1,0 @@
-use Rattle.law_linking.proofs.ClassLaws.{have_fields}
-use Rattle.law_linking.proofs.class_laws.fields_are_cells_of_their_kind.Goals as goal
-
-pub returns : goal.returns
-returns c = have_fields

@@ -1,5 +1,0 @@
-use Rattle.law_linking.proofs.ClassLaws.{have_classes}
-use Rattle.law_linking.proofs.class_laws.linked_packages_know_their_classes.Goals as goal
-
-pub returns : goal.returns
-returns c = have_classes

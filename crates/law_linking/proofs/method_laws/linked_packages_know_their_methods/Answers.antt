@@ -1,5 +1,0 @@
-use Rattle.law_linking.proofs.MethodLaws.{have_methods}
-use Rattle.law_linking.proofs.method_laws.linked_packages_know_their_methods.Goals as goal
-
-pub returns : goal.returns
-returns c = have_methods

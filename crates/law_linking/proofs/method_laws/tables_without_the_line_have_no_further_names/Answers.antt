@@ -1,5 +1,0 @@
-use Rattle.law_linking.proofs.Plain.{are_plain}
-use Rattle.law_linking.proofs.method_laws.tables_without_the_line_have_no_further_names.Goals as goal
-
-pub returns : goal.returns
-returns c = are_plain

@@ -1,5 +1,0 @@
-use Rattle.law_linking.proofs.ResolutionLaws.{all_resolve}
-use Rattle.law_linking.proofs.resolution_laws.all_entries_resolve.Goals as goal
-
-pub returns : goal.returns
-returns c = all_resolve

@@ -1,5 +1,0 @@
-use Rattle.law_linking.proofs.Fields.{hide_fields}
-use Rattle.law_linking.proofs.resolution_laws.fields_of_the_platform_have_no_names.Goals as goal
-
-pub returns : goal.returns
-returns c = hide_fields

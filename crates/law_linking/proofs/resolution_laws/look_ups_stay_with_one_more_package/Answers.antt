@@ -1,5 +1,0 @@
-use Rattle.law_linking.proofs.ResolutionLaws.{adding_keeps}
-use Rattle.law_linking.proofs.resolution_laws.look_ups_stay_with_one_more_package.Goals as goal
-
-pub returns : goal.returns
-returns c = adding_keeps
