@@ -2,7 +2,7 @@
 use Rattle.std.proofs.Common.{◌≤◌, arith}
 use Rattle.jc_digests.specs.declared.kept.HashAlgorithm.{HashAlgorithm}
 use Rattle.jc_digests.specs.declared.kept.HashAlgorithm.TheVariants.{Md5, Sha1, Sha224, Sha256, Sha384, Sha512}
-use Rattle.jc_api_crypto.specs.MessageDigest.{digest_shorts}
+use Rattle.jc_api_keys.specs.DigestStates.{digest_shorts}
 
 pub few_shorts : (a : HashAlgorithm) → digest_shorts a ≤ 100
 few_shorts Md5 = omega arith

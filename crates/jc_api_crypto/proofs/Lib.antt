@@ -7,9 +7,3 @@ mod Counts
 mod FewShorts
 pub mod Classes
 pub mod EngineCalls
-mod Released
-pub mod CipherClasses
-pub mod SignatureClasses
-pub mod CipherCalls
-mod Deciphered
-mod OaepMessages

@@ -19,7 +19,7 @@ use Rattle.jc_api.specs.Changing.{EngineAnswer}
 use Rattle.jc_api_keys.specs.Exceptions.{illegal_value}
 use Rattle.jc_api_crypto.specs.MessageDigest.{running_digest, sets_state}
 use Rattle.jc_api_keys.specs.Shorts.{shorts_of}
-use Rattle.jc_api_crypto.specs.declared.message_digest.RunningDigest.{RunningDigest}
+use Rattle.jc_api_keys.specs.declared.digest_states.RunningDigest.{RunningDigest}
 
 -- the number that the first n bytes are, the high one first
 unfoldable pub first_number : List ℕ → ℕ → ℕ

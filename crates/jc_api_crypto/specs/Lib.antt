@@ -3,10 +3,4 @@ pub mod InitializedMessageDigest
 pub mod MessagesInPieces
 pub mod Checksum
 pub mod RandomData
-pub mod Initialized
-pub mod Outputs
-pub mod Gathered
-pub mod Cipher
-pub mod Signature
 pub mod Engines
-pub mod Ciphers

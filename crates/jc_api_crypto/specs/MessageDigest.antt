@@ -1,8 +1,8 @@
 -- MessageDigest (API specification).
 use Rattle.std.specs.Ordering.{int_eq}
-use Rattle.std.specs.Prelude.{ℕ, ℤ, pos, ◌≡◌, ◌/◌, List, replicate, Option, Some, None, Result, Ok, if◌then◌else◌}
+use Rattle.std.specs.Prelude.{ℕ, ℤ, pos, List, replicate, Option, Some, None, Result, Ok, if◌then◌else◌}
 use Rattle.jc_transient.specs.declared.cell.ClearEvent.TheVariants.{Reset}
-use Rattle.jc_digests.specs.Kept.{digest_of_state, digest_size, state_after, state_size}
+use Rattle.jc_digests.specs.Kept.{digest_of_state, digest_size}
 use Rattle.jc_digests.specs.declared.kept.HashAlgorithm.{HashAlgorithm}
 use Rattle.jc_digests.specs.declared.kept.HashAlgorithm.TheVariants as hash
 use Rattle.jc_frames.specs.declared.cell.Cell.{Cell}
@@ -12,17 +12,16 @@ use Rattle.jc_platform.specs.declared.names.PlatformClass.{PlatformClass}
 use Rattle.jc_platform.specs.declared.names.PlatformClass.TheVariants as class
 use Rattle.jc_linker.specs.Values.{Packages}
 use Rattle.jc_world.specs.Answers.{and_then}
-use Rattle.jc_world.specs.Arrays.{bytes_in}
 use Rattle.jc_world.specs.Objects.{short_argument, some_or_fault}
-use Rattle.jc_world.specs.declared.arrays.Stretch.{Stretch}
 use Rattle.jc_api.specs.Arguments.{counted_of}
-use Rattle.jc_api.specs.Changing.{EngineAnswer, IsState, changes, changes_and_puts, state_at}
+use Rattle.jc_api.specs.Changing.{EngineAnswer, changes, changes_and_puts, state_at}
 use Rattle.jc_api.specs.Forms.{CallAnswer, tells}
 use Rattle.jc_api.specs.declared.factory.NewEngine.{NewEngine}
 use Rattle.jc_api.specs.declared.factory.StateKind.TheVariants.{Shorts}
-use Rattle.jc_api_keys.specs.Receivers.{bytes_of_state, named_or_throw, output_of, receiver_of}
+use Rattle.jc_api_keys.specs.Receivers.{named_or_throw, output_of, receiver_of}
 use Rattle.jc_api_keys.specs.Shorts.{shorts_of}
-use Rattle.jc_api_crypto.specs.declared.message_digest.RunningDigest.{RunningDigest}
+use Rattle.jc_api_keys.specs.declared.digest_states.RunningDigest.{RunningDigest}
+use Rattle.jc_api_keys.specs.DigestStates.{bytes_after, digest_shorts}
 use Rattle.jc_api_keys.specs.declared.receivers.Receiver.{Receiver}
 
 -- the hash function of a number: SHA, MD5, SHA_256, SHA_384, SHA_512, SHA_224
@@ -31,16 +30,7 @@ hash_named v =
     if int_eq v (pos 1) then Some hash.Sha1 else if int_eq v (pos 2) then Some hash.Md5 else if int_eq v (pos 4) then Some hash.Sha256
     else if int_eq v (pos 5) then Some hash.Sha384 else if int_eq v (pos 6) then Some hash.Sha512 else if int_eq v (pos 7) then Some hash.Sha224 else None
 
--- how many shorts a state has: hash value, open block and length of the message by their bytes
-abbrev pub digest_shorts : HashAlgorithm → ℕ
-digest_shorts a = state_size a / 2
-
 -- ---- the objects
-
--- these cells of its state are there
-pub record IsRunning (m : MemoryState) (own : RunningDigest) : Type 0 where
-  pub there : IsState m own.state
-  pub all : own.state.count ≡ digest_shorts own.algorithm
 
 -- the hash function of a receiver of this class, and the cells of its state
 abbrev pub running_in : Receiver → Packages → MemoryState → HashAlgorithm → Result RunningDigest FrameExit
@@ -78,10 +68,6 @@ message_digest_get_length args p m = and_then (receiver_of class.MessageDigest a
     (λ a. Ok (tells (pos (digest_size a)))))
 
 -- ---- the message
-
--- the bytes of the state once these elements follow
-abbrev pub bytes_after : MemoryState → RunningDigest → Stretch → List ℕ
-bytes_after m own e = state_after own.algorithm (bytes_of_state m own.state) (bytes_in m e)
 
 -- all of the state is set, and nothing returned
 abbrev pub sets_state : RunningDigest → List ℕ → EngineAnswer

@@ -8,11 +8,12 @@ ghost use Rattle.jc_world.specs.NativeCalls.{after_call};
 ghost use Rattle.jc_platform.specs.declared.names.PlatformClass.TheVariants as class;
 ghost use Rattle.jc_api.specs.Changing.{changing_call};
 ghost use Rattle.jc_api_crypto.specs.InitializedMessageDigest.{begins_after, begins_from, count_before, count_in, initialized_message_digest_set_initial_digest, is_counted, is_whole};
-ghost use Rattle.jc_api_crypto.specs.MessageDigest.{IsRunning};
+ghost use Rattle.jc_api_keys.specs.DigestStates.{IsRunning};
 
+use crate::message_digest::running_digest;
 use crate::message_digest::state::set_bytes;
-use crate::message_digest::{RunningDigest, running_digest};
 use jc_api::{MOST_ELEMENTS, counted_of};
+use jc_api_keys::digest_states::RunningDigest;
 use jc_api_keys::exceptions::ILLEGAL_VALUE;
 use jc_api_keys::receivers::read;
 use jc_digests::kept::{HashAlgorithm, MOST_HASH, MOST_STATE, begin_state};

@@ -11,10 +11,12 @@ ghost use Rattle.jc_api.specs.Changing.{changing_call};
 ghost use Rattle.jc_api.specs.Exits.{plainly};
 ghost use Rattle.jc_api.specs.Factory.{factory_call};
 ghost use Rattle.jc_api.specs.Forms.{reading_call};
-ghost use Rattle.jc_api_crypto.specs.MessageDigest.{IsRunning, digest_shorts, hash_named, message_digest_do_final, message_digest_get_algorithm, message_digest_get_initialized_message_digest_instance, message_digest_get_instance, message_digest_get_length, message_digest_reset, message_digest_update, new_digest, running_digest};
+ghost use Rattle.jc_api_crypto.specs.MessageDigest.{hash_named, message_digest_do_final, message_digest_get_algorithm, message_digest_get_initialized_message_digest_instance, message_digest_get_instance, message_digest_get_length, message_digest_reset, message_digest_update, new_digest, running_digest};
+ghost use Rattle.jc_api_keys.specs.DigestStates.{IsRunning, digest_shorts};
 
 use crate::message_digest::state::{finish, forget, update};
 use jc_api::{NewEngine, StateKind, counted_of, make_engine, state_at};
+use jc_api_keys::digest_states::{RunningDigest, digest_shorts};
 use jc_api_keys::exceptions::NO_SUCH_ALGORITHM;
 use jc_api_keys::receivers::{output_of, receiver_of};
 use jc_digests::kept::HashAlgorithm;
@@ -26,13 +28,6 @@ use jc_transient::ClearEvent;
 use jc_words::WordStore;
 use jc_world::arguments::short_argument;
 use jc_world::{NativeResult, StepExit, Stretch, short};
-
-/// A message under a hash function: the cells of its state.
-#[derive(Clone, Copy)]
-pub struct RunningDigest {
-    pub algorithm: HashAlgorithm,
-    pub state: Stretch,
-}
 
 // The hash function of a number.
 fn hash_named(number: i16) -> Option<HashAlgorithm>
@@ -53,13 +48,6 @@ fn hash_named(number: i16) -> Option<HashAlgorithm>
     } else {
         None
     }
-}
-
-// How many shorts a state has.
-pub(crate) fn digest_shorts(algorithm: HashAlgorithm) -> u16
-    ensures { result ≡ digest_shorts algorithm }
-{
-    (algorithm.state_size() / 2) as u16
 }
 
 // How many bytes a digest has, as calls return it.

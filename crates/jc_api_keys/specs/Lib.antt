@@ -1,6 +1,7 @@
 pub mod Shorts
 pub mod Exceptions
 pub mod Receivers
+pub mod DigestStates
 pub mod KeyTypes
 pub mod KeyParts
 pub mod KeyBuilder

@@ -1,6 +1,7 @@
 //! Keys of `javacard.security` (API specification): `KeyBuilder`, and key objects of all its types; and what calls of all objects of the package share.
 #![tactic(auto)]
 
+pub mod digest_states;
 pub mod ec_keys;
 pub mod exceptions;
 pub mod key_builder;

@@ -10,7 +10,7 @@ use Rattle.jc_frames.specs.declared.outcome.FrameExit.{FrameExit}
 use Rattle.jc_world.specs.declared.native_result.NativeResult.{NativeResult}
 use Rattle.jc_api.proofs.Due.{IsPlainCall, DueThen, Anything, due_any, due_of}
 use Rattle.jc_api.proofs.Passing.{Turns}
-use Rattle.jc_api_crypto.proofs.CipherCalls.{ciphers_due}
+use Rattle.jc_api_ciphers.proofs.CipherCalls.{ciphers_due}
 use Rattle.jc_api_crypto.proofs.EngineCalls.{engines_due}
 use Rattle.jc_api_keys.proofs.KeyCalls.{ec_keys_due, keys_due, rsa_keys_due}
 use Rattle.jc_api_pairs.proofs.PairCalls.{pairs_due}

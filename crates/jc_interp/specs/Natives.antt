@@ -8,7 +8,7 @@ use Rattle.jc_platform.specs.declared.names.PlatformMethod.TheVariants.{Keys, Ke
 use Rattle.jc_platform.specs.declared.names.PlatformMethod.TheVariants.{RsaKeys, EcKeys, RsaInterfaces, EcInterfaces, KeyPairs}
 use Rattle.jc_linker.specs.Values.{Packages}
 use Rattle.jc_world.specs.NativeCalls.{NativeProgram, code_fault}
-use Rattle.jc_api_crypto.specs.Ciphers.{cipher_call}
+use Rattle.jc_api_ciphers.specs.Ciphers.{cipher_call}
 use Rattle.jc_api_crypto.specs.Engines.{engine_call}
 use Rattle.jc_api_keys.specs.EcKeys.{ec_key_call}
 use Rattle.jc_api_keys.specs.Keys.{key_call}

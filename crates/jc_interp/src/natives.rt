@@ -4,7 +4,8 @@ ghost use Rattle.jc_memory.specs.Programs.{Executes};
 ghost use Rattle.jc_world.specs.NativeCalls.{after_call};
 ghost use Rattle.jc_interp.specs.Natives.{native_call};
 
-use jc_api_crypto::{call_cipher, call_engine};
+use jc_api_ciphers::call_cipher;
+use jc_api_crypto::call_engine;
 use jc_api_framework::{
     call_aid, call_apdu, call_applet, call_event, call_exception, call_object, call_pin,
     call_system, call_util,

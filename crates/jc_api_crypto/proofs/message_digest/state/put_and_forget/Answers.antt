@@ -3,7 +3,8 @@ use Rattle.std.proofs.lemmas.List.{take-replicate}
 use Rattle.jc_memory.specs.Programs.{Executes}
 use Rattle.jc_world.specs.NativeCalls.{after_call}
 use Rattle.jc_api.specs.Changing.{EngineAnswer, changes_and_puts, changing_call}
-use Rattle.jc_api_crypto.specs.MessageDigest.{digest_shorts, nothing_came}
+use Rattle.jc_api_keys.specs.DigestStates.{digest_shorts}
+use Rattle.jc_api_crypto.specs.MessageDigest.{nothing_came}
 use Rattle.jc_api_crypto.proofs.FewShorts.{few_shorts}
 use Rattle.jc_api_crypto.proofs.message_digest.state.put_and_forget.Goals as goal
 

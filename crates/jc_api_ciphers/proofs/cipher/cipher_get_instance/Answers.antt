@@ -1,0 +1,6 @@
+use Rattle.std.proofs.Common.{sym}
+use Rattle.jc_api_ciphers.proofs.CipherClasses.{made_cipher}
+use Rattle.jc_api_ciphers.proofs.cipher.cipher_get_instance.Goals as goal
+
+pub make_engine-requires-clause-state : goal.make_engine-requires-clause-state
+make_engine-requires-clause-state g c = made_cipher c.args.args.now c.in_ok-engine.engine (sym c.in_ok-engine.ensures.new)
