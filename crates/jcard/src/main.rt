@@ -2,7 +2,7 @@
 #![tactic(auto)]
 
 use jcard_commands::program::run_program;
-use jcard_script::std_text::StdText;
+use jcard_texts::std_text::StdText;
 use std::io::{self, IsTerminal};
 use std::process::ExitCode;
 

@@ -14,17 +14,17 @@ use jcard_files::disk::Disk;
 use jcard_files::fault::Fault;
 use jcard_files::reading::script_of;
 use jcard_files::remarks::Remarks;
-use jcard_files::script_fault::Names;
 use jcard_outcomes::recoveries::Depth;
-use jcard_script::streams::TextOut;
 use jcard_tear::cuts::Behind;
 use jcard_tear::image_sweep::Asked;
 use jcard_tear::progress::Progress;
 use jcard_tear::remarks::remark_on_probe;
+use jcard_tear::script_fault::Names;
 use jcard_tear::script_lines::commands;
 use jcard_tear::subject::{Subject, carry_through, image_words, lent, probe_of};
 use jcard_tear::sweep::TearFault;
 use jcard_tear::targets::target_of;
+use jcard_texts::streams::TextOut;
 use std::alloc::Global;
 
 /// What is attacked of an image: the names of a script and perhaps of a probe, the command in the line of a number, the last one, or each,

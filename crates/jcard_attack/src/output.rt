@@ -3,7 +3,7 @@ ghost use Rattle.jcard_files.specs.Effects.{Writes};
 ghost use Rattle.jcard_attack.specs.Output.{IsAttackTold};
 
 use jcard_files::fault::Fault;
-use jcard_script::streams::{TextOut, write_all};
+use jcard_texts::streams::{TextOut, write_all};
 
 /// Writes a report of faults, and ends as it says: whether one was accepted.
 pub(crate) fn write_attack<'n, W: TextOut>(

@@ -13,9 +13,9 @@ use jcard_files::fault::Fault;
 use jcard_outcomes::command_shares::join_shares;
 use jcard_outcomes::sweep_head::bodies_of;
 use jcard_outcomes::sweep_kind::kind_of;
-use jcard_script::streams::TextOut;
 use jcard_tear::join::{join_bodies, share_fault};
 use jcard_tear::part_texts::{head_fault, texts_of};
+use jcard_texts::streams::TextOut;
 use std::alloc::Global;
 
 /// Joins the texts in the files with these names, which state the parts of a sweep, in any order, to what one run reports of it.

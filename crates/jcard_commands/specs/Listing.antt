@@ -9,7 +9,7 @@ use Rattle.jcard_files.specs.FileDeeds.{FileDeed}
 use Rattle.jcard_files.specs.Reading.{IsScriptRead, IsUnread}
 use Rattle.jcard_dump.specs.Comparison.{IsComparison}
 use Rattle.jcard_dump.specs.Dump.{IsObjectsDump}
-use Rattle.jcard_script.specs.Texts.{IsCutOf}
+use Rattle.jcard_texts.specs.Texts.{IsCutOf}
 use Rattle.jcard_attack.specs.AttackAsked as sweeps
 use Rattle.jcard_attack.specs.ImageSweep.{IsAttack}
 use Rattle.jcard_tear.specs.SweepAsked.{SweepAsked}

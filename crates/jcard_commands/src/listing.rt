@@ -21,11 +21,11 @@ use jcard_files::disk::Disk;
 use jcard_files::fault::Fault;
 use jcard_files::reading::script_of;
 use jcard_files::remarks::Remarks;
-use jcard_script::streams::{TextOut, write_all};
 use jcard_tear::cuts::Behind;
 use jcard_tear::image_sweep::{Asked, tear_image};
 use jcard_tear::kept_text::KeptText;
 use jcard_tear::progress::Progress;
+use jcard_texts::streams::{TextOut, write_all};
 use jcard_why::named_text::with_names;
 use std::alloc::{AllocError, Global};
 

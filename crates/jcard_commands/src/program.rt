@@ -12,7 +12,7 @@ use jc_words::{EmptyFile, FlushFile, LockFile, WriteAt};
 use jcard_arguments::joined_words::joined;
 use jcard_files::disk::SystemDisk;
 use jcard_files::fault::{Fault, tell};
-use jcard_script::streams::TextOut;
+use jcard_texts::streams::TextOut;
 use std::alloc::{AllocError, Global};
 use std::env::{self, Args, Env};
 use std::fs;

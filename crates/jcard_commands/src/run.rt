@@ -27,11 +27,11 @@ use jcard_files::fault::{Fault, tell};
 use jcard_files::image_size::ImageSize;
 use jcard_files::new_image::make_image;
 use jcard_files::remarks::Remarks;
-use jcard_script::streams::{TextOut, write_all};
 use jcard_tear::progress::Progress;
 use jcard_test::request::Asked as TestRequest;
 use jcard_test::testing::test_files;
 use jcard_test::timer::Timer;
+use jcard_texts::streams::{TextOut, write_all};
 use std::alloc::AllocError;
 
 /// Does what the words ask for, the program's name among them as the first, and answers the exit

@@ -15,12 +15,12 @@ use jcard_files::fault::Fault;
 use jcard_files::image_size::{ImageSize, extent_of};
 use jcard_files::memory_image::new_image;
 use jcard_files::remarks::Remarks;
-use jcard_files::script_fault::Names;
 use jcard_files::table_remarks::remark_on_table;
 use jcard_files::usual_table::platform_of;
 use jcard_script::script::run_script_explained;
-use jcard_script::std_text::StdText;
-use jcard_script::streams::TextOut;
+use jcard_tear::script_fault::Names;
+use jcard_texts::std_text::StdText;
+use jcard_texts::streams::TextOut;
 
 /// What is tried: the script in the file with this name, on a new card of this size, with the platform table in the file with this
 /// name, or the usual one. A command carries out at most `budget` instructions.

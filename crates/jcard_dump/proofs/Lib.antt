@@ -9,3 +9,4 @@ pub mod NumberedLines
 pub mod ObjectLines
 pub mod PackageRecords
 pub mod PartLines
+pub mod Upper

@@ -2,7 +2,7 @@
 use Rattle.std.proofs.Common.{◌≡◌, ℕ, zero, suc, ◌+◌, ◌<◌, ◌≤◌, true, false, List, ◌++◌, Option, Result, Ok, Err, refl, subst, sym, inl, inr, arith, add-one}
 use Rattle.std.proofs.Common.{⊎_elim}
 use Rattle.std.proofs.lemmas.Bool.{cases_Bool, cases_lt}
-use Rattle.jcard_script.proofs.Known.{appends_same, appends_then_appends, cut_first, cut_second}
+use Rattle.jcard_texts.proofs.Known.{appends_same, appends_then_appends, cut_first, cut_second}
 use Rattle.jcard_dump.specs.InventoryLines.{Lines, Tells, line_if, numbered_lines, then_lines}
 use Rattle.jcard_dump.specs.declared.inventory_lines.ListingFault.{ListingFault}
 use Rattle.jcard_dump.specs.declared.inventory_lines.ListingFault.TheVariants.{Unreadable, NotWritten}

@@ -1,7 +1,7 @@
 -- What is reported of an image and of its objects.
 use Rattle.std.specs.Prelude.{ℕ, ◌≡◌, ◌⊎◌, ◌*◌, ◌∷◌, ◌++◌, true, false, Bool, List, [], length, Result, Ok, Err, if◌then◌else◌}
 use Rattle.jc_words.specs.File.{IsImageSize}
-use Rattle.jcard_script.specs.Texts.{IsCutOf}
+use Rattle.jcard_texts.specs.Texts.{IsCutOf}
 use Rattle.jcard_files.specs.Effects.{Says, Tells}
 use Rattle.jcard_files.specs.declared.fault.Damage.TheVariants.{Package}
 use Rattle.jcard_files.specs.declared.fault.Fault.{Fault}

@@ -5,7 +5,7 @@ use Rattle.jc_words.specs.declared.image.ImageFault.{ImageFault}
 use Rattle.jc_card.specs.Inventory.{inventory_of}
 use Rattle.jc_card.specs.PowerUp.{HasHead, PowerUpRefuses, fault_of}
 use Rattle.jc_card.specs.declared.inventory.Inventory.{Inventory}
-use Rattle.jcard_script.specs.Texts.{IsCutOf}
+use Rattle.jcard_texts.specs.Texts.{IsCutOf}
 use Rattle.jcard_files.specs.Effects.{Says, Tells}
 use Rattle.jcard_files.specs.FileDeeds.{ClosesImage, ReadsImage, untouched}
 use Rattle.jcard_files.specs.Images.{IsNotOpened}

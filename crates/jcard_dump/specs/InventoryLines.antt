@@ -7,7 +7,7 @@ use Rattle.hex.specs.Hex.{encode_upper}
 use Rattle.jc_words.specs.Layout.{packages_address, applets_address}
 use Rattle.jc_cap.specs.Packages.{NamedPackage}
 use Rattle.jc_image.specs.Listing.{NamedApplet, package_at, applet_at}
-use Rattle.jcard_script.specs.Texts.{AppendsCut}
+use Rattle.jcard_texts.specs.Texts.{AppendsCut}
 use Rattle.jcard_dump.specs.declared.inventory_lines.ListingFault.{ListingFault}
 use Rattle.jcard_dump.specs.declared.inventory_lines.ListingFault.TheVariants.{Unreadable, NotWritten}
 

@@ -14,7 +14,7 @@ use jc_words::{ImageFault, WordStore};
 use jcard_files::closed_store::ClosedStore;
 use jcard_files::disk::Disk;
 use jcard_files::fault::{Damage, Fault};
-use jcard_script::streams::{TextOut, write_all};
+use jcard_texts::streams::{TextOut, write_all};
 use std::alloc::{AllocError, Global};
 
 /// `jcard dump IMAGE --against OTHER`: prints what is not the same in two images, each of which is read alone. Nothing is recovered.

@@ -11,7 +11,7 @@ use jc_words::WordStore;
 use jcard_files::closed_store::ClosedStore;
 use jcard_files::disk::Disk;
 use jcard_files::fault::{Damage, Fault};
-use jcard_script::streams::{TextOut, write_all};
+use jcard_texts::streams::{TextOut, write_all};
 use std::alloc::{AllocError, Global};
 
 /// `jcard dump IMAGE --objects`: prints what `jcard dump` does, and then the heap's end, the journal's entries that count, the

@@ -2,7 +2,7 @@
 ghost use Rattle.std.specs.Prelude.{◌≡◌, ◌≤◌, ◌++◌, is_err, length, MatchResult};
 ghost use Rattle.jc_words.specs.Layout.{text_start};
 ghost use Rattle.std.specs.Io.KnownBytes.{Appends};
-ghost use Rattle.jcard_script.specs.Texts.{AppendsCut};
+ghost use Rattle.jcard_texts.specs.Texts.{AppendsCut};
 ghost use Rattle.jc_words.specs.Count.{failures_after};
 ghost use Rattle.jcard_files.specs.Effects.{Does, Writes};
 ghost use Rattle.jcard_dump.specs.Inventory.{IsDump, IsTold, lines_of, sizes_of, told_listing_fault, damage_of};
@@ -16,7 +16,7 @@ use jc_words::{ImageFault, WordStore};
 use jcard_files::closed_store::ClosedStore;
 use jcard_files::disk::Disk;
 use jcard_files::fault::{Damage, Fault};
-use jcard_script::streams::{TextOut, WriteFailed, write_parts};
+use jcard_texts::streams::{TextOut, WriteFailed, write_parts};
 
 /// A count and what stands before it in its line.
 type Count<'a> = (&'a [u8], u16);

@@ -4,7 +4,7 @@ ghost use Rattle.std.specs.Io.KnownBytes.{Appends};
 ghost use Rattle.hex.specs.Hex.{encode_upper};
 ghost use Rattle.jc_words.specs.Layout.{text_start};
 ghost use Rattle.jc_words.specs.Count.{failures_after};
-ghost use Rattle.jcard_script.specs.Texts.{AppendsCut};
+ghost use Rattle.jcard_texts.specs.Texts.{AppendsCut};
 ghost use Rattle.jcard_dump.specs.InventoryLines.{Tells, applet_line, applet_text, count_line, is_not_written, line_if, name_text, numbered_lines, package_line};
 ghost use Rattle.jcard_dump.specs.InventoryLines.{package_text, version_line};
 ghost use Rattle.jcard_dump.specs.declared.inventory_lines.ListingFault.TheVariants.{NotWritten};
@@ -12,7 +12,7 @@ ghost use Rattle.jcard_dump.specs.declared.inventory_lines.ListingFault.TheVaria
 use itoa::Buffer;
 use jc_image::{AppletName, PackageName, applet_at, package_at};
 use jc_words::WordStore;
-use jcard_script::streams::{TextOut, WriteFailed, write_all, write_parts};
+use jcard_texts::streams::{TextOut, WriteFailed, write_all, write_parts};
 
 /// How many bytes an AID has at most, as a line prints it.
 const MOST_AID: usize = 16;

@@ -2,7 +2,7 @@
 use Rattle.std.specs.Prelude.{ℕ, Bool, true, false, ◌≡◌, ◌+◌, List, [], ◌++◌, codes, decimal, min, Result, Ok, Err}
 use Rattle.std.specs.Prelude.{MatchBool}
 use Rattle.jc_words.specs.Count.{failures_after}
-use Rattle.jcard_script.specs.Texts.{IsCutOf}
+use Rattle.jcard_texts.specs.Texts.{IsCutOf}
 use Rattle.jcard_files.specs.declared.fault.Damage.{Damage}
 use Rattle.jcard_files.specs.declared.fault.Damage.TheVariants.{Magic, Version, Size, Log, Table, Package}
 use Rattle.jcard_files.specs.declared.fault.FileKind.{FileKind}

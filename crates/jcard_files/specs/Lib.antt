@@ -5,7 +5,6 @@ pub mod Images
 pub mod MemDisk
 pub mod Operand
 pub mod Reading
-pub mod ScriptFault
 pub mod ImageSize
 pub mod NewImage
 pub mod UsualTable

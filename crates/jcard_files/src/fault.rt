@@ -1,12 +1,12 @@
 //! Why the program ends early, and how it says that.
 ghost use Rattle.std.specs.Prelude.{◌≡◌, ℕ, List, Bool, is_err, MatchResult};
 ghost use Rattle.std.specs.Io.KnownBytes.{Appends};
-ghost use Rattle.jcard_script.specs.Texts.{AppendsCut};
+ghost use Rattle.jcard_texts.specs.Texts.{AppendsCut};
 ghost use Rattle.jc_words.specs.Count.{failures_after};
 ghost use Rattle.jcard_files.specs.Fault.{check_of, cut_line, ending_of, status_of, line_of, part_line, share_line, share_number, unincluded_text, unread_text, IsLastLine};
 
 use itoa::Buffer;
-use jcard_script::streams::{TextOut, WriteFailed, write_all, write_parts};
+use jcard_texts::streams::{TextOut, WriteFailed, write_all, write_parts};
 
 /// What is wrong with an image, by the check that refuses it, in their order.
 #[derive(Clone, Copy, Drop)]

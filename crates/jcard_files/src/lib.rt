@@ -13,7 +13,6 @@ pub mod new_image;
 pub mod operand;
 pub mod reading;
 pub mod remarks;
-pub mod script_fault;
 pub mod table_remarks;
 pub mod text_file;
 pub mod usual_table;

@@ -8,7 +8,7 @@ use jc_platform::example::EXAMPLE;
 use jc_platform::fault::TableFault;
 use jc_platform::lookup::all_classes;
 use jc_platform::read::{LARGEST_TEXT, read_table};
-use jcard_script::numbers::push_number;
+use jcard_texts::numbers::push_number;
 use std::alloc::{AllocError, Global};
 
 /// How many words a line has at most, and one more.

@@ -4,7 +4,6 @@ pub mod Digits
 pub mod ScriptEnds
 pub mod Forms
 pub mod PowerUps
-pub mod Known
 pub mod LineSteps
 pub mod LongCommands
 pub mod Parts

@@ -1,6 +1,6 @@
 -- Lines that are carried out one after another.
 use Rattle.std.proofs.Common.{◌≡◌, ℕ, ◌+◌, List, [], ◌∷◌, ◌++◌, length, refl, sym, ◌∙◌, ap, subst, append_assoc, append-nil}
-use Rattle.jcard_script.specs.Texts.{IsCutOf}
+use Rattle.jcard_texts.specs.Texts.{IsCutOf}
 use Rattle.jc_card.specs.declared.power_up.PowerFault.{PowerFault}
 use Rattle.jc_card.specs.Session.Requests.{Reset}
 use Rattle.jcard_script.specs.ScriptStates.{ScriptState, FailsReset}

@@ -1,27 +1,8 @@
 -- Hexadecimal text in upper case.
-use Rattle.std.proofs.Common.{◌≡◌, ℕ, ◌/◌, ◌%◌, List, [], ◌∷◌, ◌++◌, append_assoc, drop, map, slice_index, get_or, refl, sym, take, ◌∙◌, ap}
+use Rattle.std.proofs.Common.{◌≡◌, ℕ, ◌/◌, ◌%◌, List, [], ◌∷◌, ◌++◌, append_assoc, drop, slice_index, refl, sym, take, ◌∙◌, ap}
 use Rattle.std.proofs.lemmas.List.{take-append-drop}
-use Rattle.std.specs.Char.{to_ascii_uppercase}
-use Rattle.std.proofs.Math.ListN.{get_or-map}
-use Rattle.hex.specs.Hex.{encode_lower, encode_upper, encode_with, lower_digits, upper_digits}
+use Rattle.hex.specs.Hex.{encode_upper, encode_with, upper_digits}
 use Rattle.jcard_script.specs.Script.{text_of}
-
-digit_upper : (k : ℕ) → to_ascii_uppercase (slice_index lower_digits k) ≡ slice_index upper_digits k
-digit_upper k =
-    let e : get_or (map to_ascii_uppercase lower_digits) k 0 ≡ to_ascii_uppercase (get_or lower_digits k 0) = get_or-map to_ascii_uppercase lower_digits k 0 in
-    sym e
-
-upper : (xs : List ℕ) → map to_ascii_uppercase (encode_with lower_digits xs) ≡ encode_with upper_digits xs
-unfolding encode_with
-upper [] = refl
-upper (b ∷ rest) =
-    ap (λ n. n ∷ to_ascii_uppercase (slice_index lower_digits (b % 16)) ∷ map to_ascii_uppercase (encode_with lower_digits rest)) (digit_upper (b / 16))
-    ∙ ap (λ n. slice_index upper_digits (b / 16) ∷ n ∷ map to_ascii_uppercase (encode_with lower_digits rest)) (digit_upper (b % 16))
-    ∙ ap (λ l. slice_index upper_digits (b / 16) ∷ slice_index upper_digits (b % 16) ∷ l) (upper rest)
-
--- the lower case text made upper case is the upper case text
-pub upper_of_lower : (xs : List ℕ) → map to_ascii_uppercase (encode_lower xs) ≡ encode_upper xs
-upper_of_lower xs = upper xs
 
 -- the text of two parts
 upper_parts : (xs ys : List ℕ) → encode_upper (xs ++ ys) ≡ encode_upper xs ++ encode_upper ys

@@ -5,6 +5,5 @@ pub mod Reply
 pub mod Script
 pub mod Session
 pub mod ScriptStates
-pub mod Texts
 pub mod Word
 pub mod RefusedLine

@@ -8,7 +8,7 @@ use Rattle.jcard_script.specs.HeldCard.{state_of_held}
 use Rattle.jcard_script.specs.Line.{IsLineOf, ends_in_return}
 use Rattle.jcard_script.specs.ScriptStates.{ScriptState, FailsReset}
 use Rattle.jcard_script.specs.Script.{Form, Asks, Bad, IsWrittenFor, AreCarriedOut, FailsAtBadLine, FailsAtReset, EndsInsideLine, ended_lines}
-use Rattle.jcard_script.specs.Texts.{AppendsCut, IsCutOf}
+use Rattle.jcard_texts.specs.Texts.{AppendsCut, IsCutOf}
 use Rattle.jcard_script.specs.Word.{IsWordOf}
 use Rattle.jcard_script.specs.declared.line.Line.{Line}
 use Rattle.jcard_script.specs.declared.session.Session.{Session}

@@ -5,8 +5,8 @@ ghost use Rattle.jcard_script.specs.RefusedLine.{fault_at, fault_of, is_of_comma
 ghost use Rattle.jcard_script.specs.Script.{Bad, form_of};
 
 use crate::line::{Line, LineRequest};
-use crate::numbers::push_number;
 use arrayvec::ArrayVec;
+use jcard_texts::numbers::push_number;
 use std::alloc::{AllocError, Global};
 
 /// Why a line has no form.

@@ -3,16 +3,16 @@ ghost use Rattle.std.specs.Prelude.{◌≡◌, ◌<◌, ◌≤◌, ◌*◌, Some
 ghost use Rattle.std.specs.Io.KnownBytes.{Appends};
 ghost use Rattle.hex.specs.Hex.{encode_upper, encode_with};
 ghost use Rattle.jc_words.specs.Count.{failures_after};
-ghost use Rattle.jcard_script.specs.Texts.{AppendsCut};
+ghost use Rattle.jcard_texts.specs.Texts.{AppendsCut};
 ghost use Rattle.jcard_script.specs.Script.{text_of, armed_text, faults_text, planned_text, second_text};
 ghost use Rattle.jcard_script.specs.Reply.{text_for_line};
 
 use crate::glitch::model_word;
-use crate::streams::{TextOut, WriteFailed, write_all, write_parts};
 use itoa::Buffer;
 use jc_card::planned_fault::{PlannedFault, SecondFault};
 use jc_card::response::Response;
 use jc_interp::attacks::FaultModel;
+use jcard_texts::streams::{TextOut, WriteFailed, write_all, write_parts};
 
 /// What is to be written for a line.
 #[derive(Clone, Copy, Drop)]

@@ -8,12 +8,12 @@ ghost use Rattle.jcard_script.specs.Script.{Ends, EndsSelecting, EndsWithin, IsW
 
 use crate::explainer::{Explainer, Unasked};
 use crate::session::Session;
-use crate::streams::{TextIn, TextOut};
 use jc_card::card::USUAL_BUDGET;
 use jc_card::power_up::PowerFault;
 use jc_environment::Aid;
 use jc_memory::Notes;
 use jc_words::{FuseStore, WordStore};
+use jcard_texts::streams::{TextIn, TextOut};
 use jcard_why::explanation::Wanted;
 use std::alloc::{AllocError, Global};
 use thiserror::Error;

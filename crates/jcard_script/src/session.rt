@@ -28,7 +28,6 @@ use crate::refused_line::remark_of;
 use crate::reply::{MOST_TEXT, Reply, reply_text, status_of, write_reply};
 use crate::script::{BOUND, ScriptFault};
 use crate::static_image::StaticImage;
-use crate::streams::{TextIn, TextOut, WriteFailed};
 use arrayvec::ArrayVec;
 use jc_card::card::Card;
 use jc_card::planned_fault::PlannedFault;
@@ -38,6 +37,7 @@ use jc_card::state::SessionState;
 use jc_environment::Aid;
 use jc_memory::Notes;
 use jc_words::{FuseStore, WordStore};
+use jcard_texts::streams::{TextIn, TextOut, WriteFailed};
 use memchr::memchr;
 use std::alloc::Global;
 

@@ -2,7 +2,7 @@
 use Rattle.std.proofs.Common.{◌≡◌, ℕ, false, List, Err, ap}
 use Rattle.jc_card.specs.declared.power_up.PowerFault.{PowerFault}
 use Rattle.jc_card.specs.declared.power_up.PowerFault.TheVariants.{BadMagic, BadVersion, BadSize, BadLog, BadTable, BadPackage, StoreDown, NoMemory}
-use Rattle.jcard_files.specs.ScriptFault.{IsUnpowered}
+use Rattle.jcard_tear.specs.ScriptFault.{IsUnpowered}
 use Rattle.jcard_files.specs.Fault.{is_unwritten}
 use Rattle.jcard_files.specs.declared.fault.Fault.{Fault}
 

@@ -10,6 +10,7 @@ pub mod KeptCard
 pub mod Texts
 pub mod SweepAsked
 pub mod Targets
+pub mod ScriptFault
 pub mod ReportedFaults
 pub mod TargetCuts
 pub mod Output

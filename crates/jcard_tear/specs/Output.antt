@@ -1,6 +1,6 @@
 -- What is written of cuts.
 use Rattle.std.specs.Prelude.{ℕ, ◌≡◌, Bool, true, false, List, Ok, Err}
-use Rattle.jcard_script.specs.Texts.{IsCutOf}
+use Rattle.jcard_texts.specs.Texts.{IsCutOf}
 use Rattle.jcard_files.specs.Effects.{Says}
 use Rattle.jcard_files.specs.declared.fault.Fault.TheVariants.{NotAllOrNothing, WriteFailed}
 

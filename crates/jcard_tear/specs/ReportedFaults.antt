@@ -4,7 +4,7 @@ use Rattle.jcard_script.specs.declared.script.ScriptFault.{ScriptFault}
 use Rattle.jcard_script.specs.declared.script.ScriptFault.TheVariants as script
 use Rattle.jcard_tear.specs.declared.sweep.TearFault.{TearFault}
 use Rattle.jcard_tear.specs.declared.sweep.TearFault.TheVariants as tear
-use Rattle.jcard_files.specs.ScriptFault.{IsUnpowered}
+use Rattle.jcard_tear.specs.ScriptFault.{IsUnpowered}
 use Rattle.jcard_files.specs.declared.fault.Fault.{Fault}
 use Rattle.jcard_files.specs.declared.fault.Fault.TheVariants.{BadCommand, BadProbeCommand, Down, NoMemory, ProbeTooLong, ScriptTooLong, TooManyCuts}
 

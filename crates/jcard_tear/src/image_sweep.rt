@@ -9,6 +9,7 @@ use crate::output::write_report;
 use crate::progress::Progress;
 use crate::remarks::remark_on_probe;
 use crate::reported_faults::tear_fault;
+use crate::script_fault::Names;
 use crate::script_lines::commands;
 use crate::subject::{Subject, carry_through, image_words, lent, probe_of};
 use crate::target_cuts::{Cutting, cut};
@@ -17,8 +18,7 @@ use jcard_files::disk::Disk;
 use jcard_files::fault::Fault;
 use jcard_files::reading::script_of;
 use jcard_files::remarks::Remarks;
-use jcard_files::script_fault::Names;
-use jcard_script::streams::TextOut;
+use jcard_texts::streams::TextOut;
 
 /// What is torn of an image: the names of a script and perhaps of a probe, the command in the line of a number, the last
 /// command, or each, and what comes after each cut.

@@ -12,7 +12,7 @@ use jcard_outcomes::join::join;
 use jcard_outcomes::join_fault::JoinFault;
 use jcard_outcomes::recoveries::Depth;
 use jcard_outcomes::sweep_kind::SweepKind;
-use jcard_script::streams::TextOut;
+use jcard_texts::streams::TextOut;
 use std::alloc::Global;
 
 /// Joins these texts, which have no heads, of the parts of such a sweep, and writes the report.

@@ -1,7 +1,7 @@
 //! A text that grows in memory as it is written.
 ghost use Rattle.std.specs.Prelude.{◌≡◌, ◌<◌, Some, []};
 
-use jcard_script::streams::{TextOut, WriteFailed};
+use jcard_texts::streams::{TextOut, WriteFailed};
 use std::alloc::Global;
 
 /// A text that grows as it is written. A write fails where memory is refused.

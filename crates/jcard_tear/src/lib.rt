@@ -21,6 +21,7 @@ pub mod remarks;
 pub mod report;
 pub mod reported_faults;
 pub mod runs;
+pub mod script_fault;
 pub mod script_lines;
 pub mod shares;
 pub mod subject;

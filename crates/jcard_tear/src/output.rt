@@ -3,7 +3,7 @@ ghost use Rattle.jcard_files.specs.Effects.{Writes};
 ghost use Rattle.jcard_tear.specs.Output.{IsReportTold};
 
 use jcard_files::fault::Fault;
-use jcard_script::streams::{TextOut, write_all};
+use jcard_texts::streams::{TextOut, write_all};
 
 /// Writes a report, and ends as it says: whole, where each cut was all or nothing and no recovery made a difference.
 pub(crate) fn write_report<'n, W: TextOut>(

@@ -5,9 +5,9 @@ ghost use Rattle.jcard_tear.specs.ReportedFaults.{IsFaultInMemory, IsProbeFaultI
 ghost use Rattle.jcard_tear.specs.Faults.{told_run_fault};
 
 use crate::runs::RunFault;
+use crate::script_fault::{Names, power_up_fault};
 use crate::sweep::TearFault;
 use jcard_files::fault::Fault;
-use jcard_files::script_fault::{Names, power_up_fault};
 use jcard_script::script::ScriptFault;
 
 /// What it means that a command was not cut.

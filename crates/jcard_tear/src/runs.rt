@@ -24,8 +24,8 @@ use jc_words::{FuseStore, MemStore, WordStore};
 use jcard_outcomes::standing::Left;
 use jcard_script::begun::{BegunScript, begin_over, begin_script};
 use jcard_script::explainer::Unasked;
-use jcard_script::mem_text::MemText;
 use jcard_script::script::{ScriptFault, run_script_explained, run_script_selecting};
+use jcard_texts::mem_text::MemText;
 use std::alloc::{AllocError, Global};
 
 /// The entries of a journal cannot be taken back, or two of them name the same word, as no transaction leaves them.

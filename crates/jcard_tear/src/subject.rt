@@ -8,13 +8,13 @@ ghost use Rattle.jcard_tear.specs.Texts.{text_of};
 use crate::remarks::remark_on_script;
 use crate::reported_faults::run_fault;
 use crate::runs::{carried_through, copied};
+use crate::script_fault::Names;
 use crate::script_lines::ScriptLine;
 use jcard_files::closed_store::ClosedStore;
 use jcard_files::disk::Disk;
 use jcard_files::fault::Fault;
 use jcard_files::reading::script_of;
 use jcard_files::remarks::Remarks;
-use jcard_files::script_fault::Names;
 use std::alloc::{AllocError, Global};
 
 /// A script over the words of an image: the names of both, the words, the text, and its commands.

@@ -9,7 +9,7 @@ use Rattle.jc_platform.specs.declared.fault.TableFault.TheVariants.{BadTable as 
 use Rattle.jc_card.specs.declared.power_up.PowerFault.TheVariants as power
 use Rattle.jc_words.specs.Store.{FuseStoreValue}
 use Rattle.jcard_script.specs.Script.{EndsWithin}
-use Rattle.jcard_script.specs.Texts.{IsCutOf}
+use Rattle.jcard_texts.specs.Texts.{IsCutOf}
 use Rattle.jcard_script.specs.declared.script.ScriptFault.{ScriptFault}
 use Rattle.jcard_script.specs.declared.script.ScriptFault.TheVariants.{PowerFault as NotPoweredUp, WriteFailed as NotWritten}
 use Rattle.jcard_test.specs.Cards.{AreCardsOf}

@@ -25,8 +25,8 @@ use jcard_files::extent::Extent;
 use jcard_files::fault::Fault;
 use jcard_files::memory_image::new_image;
 use jcard_script::explainer::Unasked;
-use jcard_script::mem_text::MemText;
 use jcard_script::script::{ScriptFault, run_script_explained};
+use jcard_texts::mem_text::MemText;
 use std::alloc::{AllocError, Global};
 
 /// What comes of the rows of these cards, each of which is new, is as planned, and is given its rows: the first row that is not answered

@@ -24,7 +24,7 @@ use jcard_files::disk::Disk;
 use jcard_files::fault::Fault;
 use jcard_files::remarks::Remarks;
 use jcard_files::table_remarks::remark_on_table;
-use jcard_script::streams::{TextOut, write_all};
+use jcard_texts::streams::{TextOut, write_all};
 use std::alloc::{AllocError, Global};
 
 /// `jcard test`: says for each of these files how many of its rows hold, or the first that is not answered as it says, and how many

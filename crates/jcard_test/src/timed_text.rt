@@ -2,8 +2,8 @@
 ghost use Rattle.std.specs.Prelude.{◌≡◌, Some, []};
 
 use crate::timer::Timer;
-use jcard_script::streams::{TextOut, WriteFailed};
 use jcard_tear::kept_text::KeptText;
+use jcard_texts::streams::{TextOut, WriteFailed};
 use std::alloc::Global;
 
 /// What was printed, and how many microseconds after the one before it each line came. Times for which memory was refused lack.

@@ -32,7 +32,7 @@ use Rattle.jcard_script.specs.ScriptStates.{ScriptState, FailsReset, FailsUp, Is
 use Rattle.jc_card.specs.State.{with_fuse}
 use Rattle.jcard_script.specs.ScriptStates.{PowersUp, fuse_kind, with_power}
 use Rattle.jcard_script.specs.Script.{AreCarriedOut, Form, Skipped, Asks, Bad, IsWrittenFor, form_of, lines_so_far, text_of_reply}
-use Rattle.jcard_script.specs.Texts.{IsCutOf}
+use Rattle.jcard_texts.specs.Texts.{IsCutOf}
 use Rattle.jcard_script.proofs.Decoding.{command_bytes}
 use Rattle.jcard_script.proofs.Words.{form_command}
 use Rattle.law_images.specs.Cards.{AreOfBytes}

@@ -12,7 +12,7 @@ use Rattle.jc_card.specs.Session.Starting.{FailsToReset, FailsToStart}
 use Rattle.jcard_script.specs.declared.script.ScriptFault.{ScriptFault}
 use Rattle.jcard_script.specs.declared.script.ScriptFault.TheVariants.{ReadFailed, WriteFailed, BadLine, TooLong, PowerFault}
 use Rattle.jcard_script.specs.Script.{EndsWithin, Form, Skipped, Asks, Bad, form_of, lines_so_far, text_of_reply}
-use Rattle.jcard_script.specs.Texts.{IsCutOf}
+use Rattle.jcard_texts.specs.Texts.{IsCutOf}
 use Rattle.law_images.specs.Cards.{AreOfBytes}
 
 -- what a session sees of a store with a fuse

@@ -1,7 +1,7 @@
 use Rattle.std.proofs.Common.{◌≡◌, [], ℕ, List, Err, ap, inl, inr, length, refl, subst, sym}
 use Rattle.std.specs.Borrow.{Bor}
 use Rattle.std.proofs.lemmas.List.{length-map}
-use Rattle.jcard_script.proofs.Known.{appends_same}
+use Rattle.jcard_texts.proofs.Known.{appends_same}
 use Rattle.jcard_attack.specs.PartFiles.{AreLinesJoinedTo}
 use Rattle.jcard_tear.specs.Texts.{texts_of}
 use Rattle.jcard_files.proofs.Effects.{unfailed}

@@ -2,7 +2,7 @@ use Rattle.std.proofs.Common.{ℕ, List, arith, [], map, inr, subst}
 use Rattle.std.specs.Borrow.{Bor}
 use Rattle.std.proofs.lemmas.List.{length-map}
 use Rattle.std.proofs.lemmas.Result.{err_from_is_err_and}
-use Rattle.jcard_script.proofs.Known.{appends_same}
+use Rattle.jcard_texts.proofs.Known.{appends_same}
 use Rattle.jcard_attack.specs.PartFiles.{IsJoinedTo}
 use Rattle.jcard_tear.specs.Texts.{texts_of}
 use Rattle.jcard_tear.proofs.PartJoins.{read_lengths}

@@ -1,5 +1,5 @@
 use Rattle.std.proofs.Common.{[], subst}
-use Rattle.jcard_script.proofs.Known.{appends_same}
+use Rattle.jcard_texts.proofs.Known.{appends_same}
 use Rattle.jcard_attack.specs.Output.{IsAttackTold}
 use Rattle.jcard_attack.proofs.FileJoins.{lines_told, lines_untold}
 use Rattle.jcard_files.proofs.Effects.{unfailed}

@@ -1,6 +1,6 @@
 use Rattle.std.proofs.Common.{[], ◌++◌, refl, inl, inr, subst, ◌∙◌, ℕ, List, ap}
 use Rattle.std.proofs.lemmas.Result.{err_from_is_err_and}
-use Rattle.jcard_script.proofs.Known.{appends_same}
+use Rattle.jcard_texts.proofs.Known.{appends_same}
 use Rattle.jcard_files.proofs.Effects.{unfailed}
 use Rattle.jcard_commands.specs.Listing.{IsNamed}
 use Rattle.jcard_commands.proofs.listing.list_named.Goals as goal

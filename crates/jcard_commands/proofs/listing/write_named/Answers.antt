@@ -1,5 +1,5 @@
 use Rattle.std.proofs.Common.{ℕ, List, [], refl, inl, inr, subst}
-use Rattle.jcard_script.proofs.Known.{appends_same}
+use Rattle.jcard_texts.proofs.Known.{appends_same}
 use Rattle.jcard_commands.specs.Listing.{IsWritten}
 use Rattle.jcard_commands.proofs.listing.write_named.Goals as goal
 

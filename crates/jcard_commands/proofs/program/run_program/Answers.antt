@@ -1,7 +1,7 @@
 use Rattle.std.proofs.Common.{Err, ◌∙◌, ap, inl, map}
 use Rattle.std.specs.String.{string_bytes}
 use Rattle.jc_words.specs.Count.{failures_after}
-use Rattle.jcard_script.proofs.Known.{appends_then_appends}
+use Rattle.jcard_texts.proofs.Known.{appends_then_appends}
 use Rattle.jcard_files.specs.declared.fault.Fault.TheVariants.{NoMemory}
 use Rattle.jcard_commands.proofs.Ends.{unbegun_told}
 use Rattle.jcard_commands.proofs.program.run_program.Goals as goal

@@ -1,7 +1,7 @@
 use Rattle.std.proofs.Common.{ℕ, List, [], ap, refl, subst, sym}
 use Rattle.std.specs.Borrow.{Bor}
 use Rattle.jc_words.specs.Count.{failures_after}
-use Rattle.jcard_script.proofs.Known.{appends_same}
+use Rattle.jcard_texts.proofs.Known.{appends_same}
 use Rattle.jcard_arguments.specs.CommandLine.{SizeAsked, ToJoin, test_asked_by, text_of, texts_of}
 use Rattle.jcard_files.specs.NewImage.{IsNew}
 use Rattle.jcard_files.proofs.ImageEnds.{new_unwritten}

@@ -1,5 +1,5 @@
 use Rattle.std.proofs.Common.{[], refl}
-use Rattle.jcard_script.proofs.Known.{appends_same}
+use Rattle.jcard_texts.proofs.Known.{appends_same}
 use Rattle.jcard_commands.proofs.Joins.{joined, not_joined}
 use Rattle.jcard_commands.proofs.run.join.Goals as goal
 

@@ -1,6 +1,6 @@
 use Rattle.std.proofs.Common.{◌∙◌, ap}
 use Rattle.jc_words.specs.Count.{failures_after}
-use Rattle.jcard_script.proofs.Known.{appends_then_appends}
+use Rattle.jcard_texts.proofs.Known.{appends_then_appends}
 use Rattle.jcard_commands.proofs.run.run_joined.Goals as goal
 
 pub returns : goal.returns

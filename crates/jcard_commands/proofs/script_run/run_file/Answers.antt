@@ -1,6 +1,6 @@
 use Rattle.std.proofs.Common.{◌≡◌, ◌∙◌, inl, inr, List, [], ◌∷◌, Ok, Err, refl, ap, subst, sym}
 use Rattle.std.proofs.lemmas.Result.{err_from_is_err_and}
-use Rattle.jcard_script.proofs.Known.{appends_same}
+use Rattle.jcard_texts.proofs.Known.{appends_same}
 use Rattle.jc_words.specs.Count.{failures_after}
 use Rattle.jc_words.specs.Store.{below_fuse, store_value}
 use Rattle.jcard_files.specs.FileDeeds.{FileDeed, ClosesImage, OpensImage, ReadsText, fresh_store, untouched}

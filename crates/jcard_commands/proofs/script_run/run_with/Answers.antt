@@ -1,7 +1,7 @@
 use Rattle.std.proofs.Common.{[], ◌++◌, ◌∙◌, ap, refl, inl, inr, subst, sym, Err, Ok, ℕ}
 use Rattle.std.proofs.lemmas.Result.{err_from_is_err_and}
 use Rattle.jc_words.specs.Count.{failures_after}
-use Rattle.jcard_script.proofs.Known.{appends_same}
+use Rattle.jcard_texts.proofs.Known.{appends_same}
 use Rattle.jcard_commands.specs.ScriptRun.{IsRun}
 use Rattle.jcard_files.proofs.Effects.{unfailed}
 use Rattle.jcard_commands.proofs.script_run.run_with.Goals as goal

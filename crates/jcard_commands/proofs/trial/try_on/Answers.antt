@@ -2,7 +2,7 @@ use Rattle.std.proofs.Common.{◌≡◌, ◌∙◌, [], ◌∷◌, Ok, Err, ap, 
 use Rattle.std.proofs.lemmas.Result.{err_from_is_err_and}
 use Rattle.std.specs.Prelude.{codes}
 use Rattle.jc_words.specs.Count.{failures_after}
-use Rattle.jcard_script.proofs.Known.{appends_same}
+use Rattle.jcard_texts.proofs.Known.{appends_same}
 use Rattle.jcard_files.specs.FileDeeds.{ReadsText, fresh_store}
 use Rattle.jcard_files.specs.Images.{IsUnopened}
 use Rattle.jcard_commands.specs.ScriptRun.{IsCarriedOut}

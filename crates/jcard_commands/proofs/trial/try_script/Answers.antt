@@ -2,7 +2,7 @@ use Rattle.std.proofs.Common.{[], ◌++◌, Ok, refl, sym, subst, ◌∙◌, inl
 use Rattle.std.proofs.lemmas.Grind.{common_steps}
 use Rattle.std.proofs.lemmas.Result.{err_from_is_err_and}
 use Rattle.jc_platform.specs.Table.{Reads}
-use Rattle.jcard_script.proofs.Known.{appends_same}
+use Rattle.jcard_texts.proofs.Known.{appends_same}
 use Rattle.jcard_files.specs.ImageSize.{IsNoExtent}
 use Rattle.jcard_files.specs.UsualTable.{IsNoPlatform, IsPlatform}
 use Rattle.jcard_arguments.specs.CommandLine.{text_of}

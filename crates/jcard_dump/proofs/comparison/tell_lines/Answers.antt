@@ -1,5 +1,5 @@
 use Rattle.std.proofs.Common.{[], inl, inr, refl}
-use Rattle.jcard_script.proofs.Known.{appends_same}
+use Rattle.jcard_texts.proofs.Known.{appends_same}
 use Rattle.jcard_dump.specs.InventoryLines.{Lines}
 use Rattle.jcard_dump.proofs.comparison.tell_lines.Goals as goal
 

@@ -1,6 +1,6 @@
 use Rattle.std.proofs.Common.{List, ℕ, refl, subst}
 use Rattle.std.specs.Io.KnownBytes.{Appends}
-use Rattle.jcard_script.specs.Texts.{AppendsCut}
+use Rattle.jcard_texts.specs.Texts.{AppendsCut}
 use Rattle.jcard_dump.specs.Pairs.{unread_text}
 use Rattle.jcard_dump.proofs.comparison.tell_no_image.Goals as goal
 

@@ -1,6 +1,6 @@
 use Rattle.std.proofs.Common.{◌≡◌, ◌∙◌, List, [], ◌∷◌, Ok, Err, refl, ap, subst, inl, inr}
 use Rattle.std.proofs.lemmas.Result.{err_from_is_err_and}
-use Rattle.jcard_script.proofs.Known.{appends_same}
+use Rattle.jcard_texts.proofs.Known.{appends_same}
 use Rattle.jc_words.specs.Store.{store_value}
 use Rattle.jcard_files.specs.FileDeeds.{FileDeed, ClosesImage, ReadsImage, untouched}
 use Rattle.jcard_files.proofs.Stores.{fresh_untouched}

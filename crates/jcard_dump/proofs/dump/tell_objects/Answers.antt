@@ -3,7 +3,7 @@ use Rattle.std.specs.Io.KnownBytes.{Appends}
 use Rattle.std.proofs.lemmas.Result.{err_from_is_err_and}
 use Rattle.jc_words.specs.Count.{failures_after}
 use Rattle.jcard_files.specs.Fault.{is_unwritten}
-use Rattle.jcard_script.proofs.Known.{appends_then_appends}
+use Rattle.jcard_texts.proofs.Known.{appends_then_appends}
 use Rattle.jcard_dump.specs.Inventory.{dump_text}
 use Rattle.jcard_dump.proofs.dump.tell_objects.Goals as goal
 

@@ -1,7 +1,7 @@
 use Rattle.std.proofs.Common.{List, ℕ, ◌∙◌, ap, subst, sym}
 use Rattle.std.specs.Io.KnownBytes.{Appends}
 use Rattle.jc_words.specs.Count.{failures_after}
-use Rattle.jcard_script.specs.Texts.{AppendsCut}
+use Rattle.jcard_texts.specs.Texts.{AppendsCut}
 use Rattle.jcard_dump.specs.InventoryLines.{Lines}
 use Rattle.jcard_dump.proofs.ListingEnds.{told_whole, whole_unwritten}
 use Rattle.jcard_dump.proofs.dump.write_listing.Goals as goal

@@ -1,5 +1,5 @@
 use Rattle.std.proofs.lemmas.Result.{err_from_is_err_and}
-use Rattle.jcard_script.proofs.Known.{cut_first, both_written}
+use Rattle.jcard_texts.proofs.Known.{cut_first, both_written}
 use Rattle.jcard_dump.specs.InventoryLines.{count_line}
 use Rattle.jcard_dump.proofs.inventory.write_counts.Goals as goal
 

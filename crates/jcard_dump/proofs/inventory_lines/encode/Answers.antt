@@ -1,7 +1,7 @@
 use Rattle.std.proofs.Common.{rules, ◌≡◌, ◌∙◌, ap, map}
 use Rattle.std.specs.Char.{to_ascii_uppercase}
 use Rattle.hex.specs.Hex.{encode_lower}
-use Rattle.jcard_script.proofs.Upper.{upper_of_lower}
+use Rattle.jcard_dump.proofs.Upper.{upper_of_lower}
 use Rattle.jcard_dump.proofs.inventory_lines.encode.Goals as goal
 
 pub returns : goal.returns

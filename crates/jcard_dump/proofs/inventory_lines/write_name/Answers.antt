@@ -1,7 +1,7 @@
 use Rattle.std.proofs.Common.{◌++◌, ◌∙◌, codes, decimal}
 use Rattle.std.proofs.lemmas.Result.{err_from_is_err_and}
 use Rattle.hex.specs.Hex.{encode_upper}
-use Rattle.jcard_script.proofs.Known.{cut_first, both_written}
+use Rattle.jcard_texts.proofs.Known.{cut_first, both_written}
 use Rattle.jcard_dump.proofs.inventory_lines.write_name.Goals as goal
 
 pub returns-in_err-write_parts-clause-text : goal.returns-in_err-write_parts-clause-text

@@ -1,5 +1,5 @@
 use Rattle.std.proofs.Common.{[], false, refl}
-use Rattle.jcard_script.proofs.Known.{appends_same}
+use Rattle.jcard_texts.proofs.Known.{appends_same}
 use Rattle.jcard_files.proofs.fault.tell.Goals as goal
 
 pub returns-in_default-clause-line : goal.returns-in_default-clause-line

@@ -1,7 +1,7 @@
 use Rattle.std.proofs.Common.{◌∙◌, ◌++◌}
 use Rattle.std.specs.Prelude.{codes, decimal}
 use Rattle.std.proofs.lemmas.Result.{err_from_is_err_and}
-use Rattle.jcard_script.proofs.Known.{both_written, cut_first}
+use Rattle.jcard_texts.proofs.Known.{both_written, cut_first}
 use Rattle.jcard_files.proofs.fault.write_unincluded.Goals as goal
 
 pub returns-in_err-write_parts-clause-text : goal.returns-in_err-write_parts-clause-text

@@ -2,7 +2,7 @@ use Rattle.std.proofs.Common.{arith, drop, length-take, take}
 use Rattle.std.proofs.lemmas.Result.{err_from_is_err_and}
 use Rattle.hex.specs.Hex.{encode_upper}
 use Rattle.jcard_script.specs.Script.{text_of}
-use Rattle.jcard_script.proofs.Known.{both_written, cut_first, whole_rest}
+use Rattle.jcard_texts.proofs.Known.{both_written, cut_first, whole_rest}
 use Rattle.jcard_script.proofs.Upper.{line_parts}
 use Rattle.jcard_script.proofs.reply.+write_line.Goals as goal
 

@@ -2,7 +2,7 @@ use Rattle.std.proofs.Common.{◌++◌}
 use Rattle.std.specs.Prelude.{decimal}
 use Rattle.jcard_script.specs.Script.{model_word, second_text}
 use Rattle.std.proofs.lemmas.Result.{err_from_is_err_and}
-use Rattle.jcard_script.proofs.Known.{appends_then_appends, both_written, cut_first, cut_second}
+use Rattle.jcard_texts.proofs.Known.{appends_then_appends, both_written, cut_first, cut_second}
 use Rattle.jcard_script.proofs.reply.write_faults.Goals as goal
 
 pub returns-in_err-write_all-clause-text : goal.returns-in_err-write_all-clause-text

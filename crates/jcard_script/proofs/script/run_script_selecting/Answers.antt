@@ -1,6 +1,6 @@
 use Rattle.std.proofs.Common.{[], refl, inl, false}
 use Rattle.jcard_script.specs.HeldCard.{state_of_held}
-use Rattle.jcard_script.proofs.Known.{appends_same, consumes_same}
+use Rattle.jcard_texts.proofs.Known.{appends_same, consumes_same}
 use Rattle.jcard_script.proofs.PowerUps.{failed_store}
 use Rattle.jcard_script.proofs.script.run_script_selecting.Goals as goal
 

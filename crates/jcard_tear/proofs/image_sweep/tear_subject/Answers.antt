@@ -1,6 +1,6 @@
 use Rattle.std.proofs.Common.{[], ◌++◌, refl, inl, inr, subst, sym}
 use Rattle.std.proofs.lemmas.Result.{err_from_is_err_and}
-use Rattle.jcard_script.proofs.Known.{appends_same}
+use Rattle.jcard_texts.proofs.Known.{appends_same}
 use Rattle.jcard_tear.specs.SweepAsked.{sweep_asked_by}
 use Rattle.jcard_tear.specs.Subject.{IsProbeRead}
 use Rattle.jcard_tear.specs.Texts.{text_of}

@@ -1,5 +1,5 @@
 use Rattle.std.proofs.Common.{[], ap, refl, subst, Err, inl, inr}
-use Rattle.jcard_script.proofs.Known.{appends_same}
+use Rattle.jcard_texts.proofs.Known.{appends_same}
 use Rattle.jcard_tear.specs.Output.{IsReportTold}
 use Rattle.jcard_files.proofs.Effects.{unfailed}
 use Rattle.jcard_tear.proofs.join.join_commands.Goals as goal

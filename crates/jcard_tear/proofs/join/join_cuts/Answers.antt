@@ -1,5 +1,5 @@
 use Rattle.std.proofs.Common.{[], subst}
-use Rattle.jcard_script.proofs.Known.{appends_same}
+use Rattle.jcard_texts.proofs.Known.{appends_same}
 use Rattle.jcard_tear.specs.Texts.{texts_of}
 use Rattle.jcard_tear.specs.Output.{IsReportTold}
 use Rattle.jcard_tear.proofs.PartJoins.{joined_told, unjoined}

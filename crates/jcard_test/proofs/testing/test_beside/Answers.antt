@@ -1,6 +1,6 @@
 use Rattle.std.proofs.Common.{[], ◌++◌, Ok, Err, refl, sym, append-nil}
 use Rattle.std.proofs.lemmas.Result.{err_from_is_err_and}
-use Rattle.jcard_script.proofs.Known.{appends_same}
+use Rattle.jcard_texts.proofs.Known.{appends_same}
 use Rattle.jcard_files.proofs.Effects.{unfailed}
 use Rattle.jcard_test.proofs.testing.test_beside.Goals as goal
 

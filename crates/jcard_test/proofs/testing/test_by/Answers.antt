@@ -1,5 +1,5 @@
 use Rattle.std.proofs.Common.{[], ◌++◌, refl, sym, subst, inl, inr, append-nil}
-use Rattle.jcard_script.proofs.Known.{appends_same}
+use Rattle.jcard_texts.proofs.Known.{appends_same}
 use Rattle.jcard_test.specs.Tests.{IsTestOfRead}
 use Rattle.jcard_test.proofs.RowTests.{any_unwritten}
 use Rattle.jcard_test.specs.Sources.{names_of}

@@ -1,6 +1,6 @@
 use Rattle.std.proofs.Common.{[], ◌++◌, refl, inl, inr}
 use Rattle.std.proofs.lemmas.Result.{err_from_is_err_and}
-use Rattle.jcard_script.proofs.Known.{appends_same}
+use Rattle.jcard_texts.proofs.Known.{appends_same}
 use Rattle.jcard_test.proofs.PlannedCards.{unplanned_unwritten}
 use Rattle.jcard_files.proofs.Effects.{unfailed}
 use Rattle.jcard_test.proofs.testing.test_files.Goals as goal

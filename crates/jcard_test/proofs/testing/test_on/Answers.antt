@@ -1,6 +1,6 @@
 use Rattle.std.proofs.Common.{[], refl, subst, inl, inr}
 use Rattle.std.proofs.lemmas.Result.{err_from_is_err_and}
-use Rattle.jcard_script.proofs.Known.{appends_same}
+use Rattle.jcard_texts.proofs.Known.{appends_same}
 use Rattle.jcard_test.specs.Sources.{name_of}
 use Rattle.jcard_test.specs.Tests.{IsTold}
 use Rattle.jcard_test.proofs.RowTests.{untested_unwritten}

@@ -1,5 +1,5 @@
 use Rattle.std.proofs.Common.{[], refl, subst, inl, inr}
-use Rattle.jcard_script.proofs.Known.{appends_same}
+use Rattle.jcard_texts.proofs.Known.{appends_same}
 use Rattle.jcard_test.specs.Planning.{table_asked}
 use Rattle.jcard_test.specs.Sources.{AreSpared, name_of, names_of, paths_of}
 use Rattle.jcard_test.specs.Tests.{IsTestBeside}

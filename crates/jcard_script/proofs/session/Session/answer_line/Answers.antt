@@ -2,7 +2,7 @@ use Rattle.std.proofs.Common.{[]}
 use Rattle.jcard_script.specs.HeldCard.{state_of_held}
 use Rattle.jcard_script.specs.Reply.{text_for_line}
 use Rattle.jcard_script.specs.Script.{form_of}
-use Rattle.jcard_script.proofs.Known.{appends_same}
+use Rattle.jcard_texts.proofs.Known.{appends_same}
 use Rattle.jcard_script.proofs.ScriptEnds.{failed_line, written_line}
 use Rattle.jcard_script.proofs.session.Session.answer_line.Goals as goal
 

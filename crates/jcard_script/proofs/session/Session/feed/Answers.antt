@@ -3,7 +3,7 @@ use Rattle.jcard_script.specs.Script.{ended_lines, AreCarriedOut}
 use Rattle.jcard_script.specs.HeldCard.{state_of_held}
 use Rattle.jcard_script.specs.Session.{StandsAt, IsKeptOf, unfinished_line}
 use Rattle.std.proofs.lemmas.Result.{err_from_is_err_and}
-use Rattle.jcard_script.proofs.Known.{appends_same, appends_then_appends, whole_rest}
+use Rattle.jcard_texts.proofs.Known.{appends_same, appends_then_appends, whole_rest}
 use Rattle.jcard_script.proofs.Parts.{unbroken_before, unbroken_whole, more_unbroken}
 use Rattle.jcard_script.proofs.ScriptEnds.{fault_inside, piece_whole}
 use Rattle.jcard_script.proofs.session.Session.feed.Goals as goal

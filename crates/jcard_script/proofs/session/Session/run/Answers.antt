@@ -4,7 +4,7 @@ use Rattle.std.proofs.lemmas.Result.{err_from_is_err_and}
 use Rattle.jcard_script.specs.Script.{AreCarriedOut, ended_lines, bound}
 use Rattle.jcard_script.specs.HeldCard.{state_of_held}
 use Rattle.jcard_script.specs.Session.{LinesEnd}
-use Rattle.jcard_script.proofs.Known.{consumes_then_keeps, consumes_then_none, consumes_then_consumes, appends_then_appends, within_bound}
+use Rattle.jcard_texts.proofs.Known.{consumes_then_keeps, consumes_then_none, consumes_then_consumes, appends_then_appends, within_bound}
 use Rattle.jcard_script.proofs.Parts.{ended_few}
 use Rattle.jcard_script.proofs.ScriptEnds.{ends_at_end, ends_before}
 use Rattle.jcard_script.proofs.session.Session.run.Goals as goal

@@ -1,9 +1,9 @@
 use Rattle.std.proofs.Common.{◌≡◌}
 use Rattle.std.specs.Io.KnownBytes.{Keeps}
-use Rattle.jcard_script.proofs.std_text.StdTextTextIn.read.Given as goal
+use Rattle.jcard_texts.proofs.std_text.StdTextTextOut.write.Given as goal
 
 abbrev pub invariant-loop : goal.invariant-loop
 invariant-loop g l = record {
-  kept : Keeps (g.T.Read.remaining l.fn.self.inner) (g.T.Read.remaining l.self.inner);
+  kept : Keeps (g.T.Write.contents l.fn.self.inner) (g.T.Write.contents l.self.inner);
   failures : l.self.failures ≡ l.fn.self.failures;
 }

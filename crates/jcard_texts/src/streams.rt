@@ -3,7 +3,7 @@ ghost use Rattle.std.specs.Prelude.{◌≡◌, ◌<◌, ◌≤◌, ◌++◌, ℕ
 ghost use Rattle.std.specs.Io.{ReadsAtMost};
 ghost use Rattle.std.specs.Io.KnownBytes.{Appends, ReadConsumes, WriteAppends};
 ghost use Rattle.jc_words.specs.Count.{failures_after};
-ghost use Rattle.jcard_script.specs.Texts.{AppendsCut};
+ghost use Rattle.jcard_texts.specs.Texts.{AppendsCut};
 
 use thiserror::Error;
 
@@ -17,7 +17,7 @@ pub struct ReadFailed;
 #[error("a write failed")]
 pub struct WriteFailed;
 
-/// Where a script is read from.
+/// Where a text is read from.
 pub trait TextIn {
     // the bytes that are left, where they are known
     ghost remaining: { Self → Option (List ℕ) };
@@ -33,7 +33,7 @@ pub trait TextIn {
         ensures count { failures self.new ≡ failures_after (failures self.old) (is_err result) };
 }
 
-/// Where responses and reports are written to.
+/// Where a text is written to.
 pub trait TextOut {
     // the bytes that were written, where they are known
     ghost contents: { Self → Option (List ℕ) };

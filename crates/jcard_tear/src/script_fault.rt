@@ -1,8 +1,8 @@
 //! What is reported where a script was not carried out to its end.
-ghost use Rattle.jcard_files.specs.ScriptFault.{IsScriptFault, IsUnpowered};
+ghost use Rattle.jcard_tear.specs.ScriptFault.{IsScriptFault, IsUnpowered};
 
-use crate::fault::{Damage, Fault};
 use jc_card::power_up::PowerFault;
+use jcard_files::fault::{Damage, Fault};
 use jcard_script::script::ScriptFault;
 
 /// The names of an image and of a script.

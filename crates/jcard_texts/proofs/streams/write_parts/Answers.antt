@@ -1,7 +1,7 @@
 use Rattle.std.proofs.Common.{◌++◌}
 use Rattle.std.proofs.lemmas.Result.{err_from_is_err_and}
-use Rattle.jcard_script.proofs.Known.{cut_first, cut_second, both_written, appends_then_appends}
-use Rattle.jcard_script.proofs.streams.write_parts.Goals as goal
+use Rattle.jcard_texts.proofs.Known.{cut_first, cut_second, both_written, appends_then_appends}
+use Rattle.jcard_texts.proofs.streams.write_parts.Goals as goal
 
 pub returns-in_err-write_all-clause-text : goal.returns-in_err-write_all-clause-text
 returns-in_err-write_all-clause-text g c =

@@ -1,6 +1,6 @@
 use Rattle.std.proofs.Common.{rules, arith, length-drop}
-use Rattle.jcard_script.proofs.Known.{one_piece, whole_rest}
-use Rattle.jcard_script.proofs.streams.write_all.Goals as goal
+use Rattle.jcard_texts.proofs.Known.{one_piece, whole_rest}
+use Rattle.jcard_texts.proofs.streams.write_all.Goals as goal
 
 pub loop-done-preserved : goal.loop-done-preserved
 loop-done-preserved g c =
