@@ -2,12 +2,12 @@
 ghost use Rattle.std.specs.Prelude.{◌≡◌, ◌<◌, ◌++◌, ℕ, List, codes, decimal, length, vec_len, IfOk, IfSome};
 ghost use Rattle.jc_commit.specs.Image.{plain_of, recovered_of};
 ghost use Rattle.jcard_tear.specs.KeptCard.{IsKeptCut, IsKeptFor, IsShort};
-ghost use Rattle.jcard_tear.specs.Runs.{IsRecovered};
-ghost use Rattle.jcard_tear.specs.declared.cuts.Command.{Command as CommandText};
+ghost use Rattle.jcard_sweeps.specs.Runs.{IsRecovered};
+ghost use Rattle.jcard_sweeps.specs.declared.command.Command.{Command as CommandText};
 
-use crate::cuts::Command;
+use jcard_sweeps::command::Command;
 use crate::recoveries::journal_of;
-use crate::runs::{recovered, words_of};
+use jcard_sweeps::runs::{recovered, words_of};
 use arrayvec::ArrayVec;
 use itoa::Buffer;
 use jc_words::{FuseStore, MemStore, WordStore};

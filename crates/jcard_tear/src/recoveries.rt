@@ -5,11 +5,11 @@ ghost use Rattle.jc_words.specs.Layout.{first_version, least_size, most_capacity
 ghost use Rattle.jc_commit.specs.Image.{IsGoodLog, address_at, count_of};
 ghost use Rattle.jc_commit.specs.Replay.{replay_writes, torn_replay};
 ghost use Rattle.jcard_outcomes.specs.Recoveries.{recoveries_of};
-ghost use Rattle.jcard_tear.specs.Faults.{IsLeftFault, IsLogFault};
+ghost use Rattle.jcard_sweeps.specs.Faults.{IsLeftFault, IsLogFault};
 ghost use Rattle.jcard_tear.specs.Recoveries.{AreRecoveries, AreTheSame, ComesToAnother, ComesToTheSame, IsSameLeft, NamesEachOnce};
-ghost use Rattle.jcard_tear.specs.Runs.{IsLeft};
+ghost use Rattle.jcard_sweeps.specs.Runs.{IsLeft};
 
-use crate::runs::{BAD_LOG, RunFault, left, words_of};
+use jcard_sweeps::runs::{BAD_LOG, RunFault, left, words_of};
 use jc_commit::{Journal, OpenRefusal};
 use jc_words::layout::{
     CAPACITY_WORD, COUNT, FIRST_VERSION, JOURNAL_WORD, LEAST_SIZE, VERSION_WORD,
