@@ -172,12 +172,7 @@ pub fn probed(alloc: Global, card: BegunScript<MemStore>, probe: &[u8]) -> Optio
 }
 
 /// What a power up over these words leaves, and what the lines of a probe are answered after it.
-pub fn left(
-    alloc: Global,
-    words: Vec<u16>,
-    probe: &[u8],
-    budget: u32,
-) -> Result<Left, RunFault>
+pub fn left(alloc: Global, words: Vec<u16>, probe: &[u8], budget: u32) -> Result<Left, RunFault>
     requires { vec_len words < 65536 }
     ensures { MatchResult result (λ left. IsLeft budget words.items probe.now left)
         (λ fault. IsLeftFault budget probe.now fault) }

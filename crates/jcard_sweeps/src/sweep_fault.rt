@@ -9,9 +9,7 @@ use jcard_script::script::ScriptFault;
 use std::alloc::AllocError;
 
 /// What a command leaves is no whole image.
-pub const DAMAGED: TearFault = TearFault::Probe(ScriptFault::PowerFault(
-    PowerFault::BadPackage,
-));
+pub const DAMAGED: TearFault = TearFault::Probe(ScriptFault::PowerFault(PowerFault::BadPackage));
 
 /// Why a command was not cut after each number of its writes.
 #[derive(Clone, Copy, Drop)]

@@ -9,11 +9,7 @@ ghost use Rattle.jcard_sweeps.specs.Report.{AreOfImage};
 
 use crate::kept_card::{AtCommand, KeptCut, kept_for};
 use crate::last_cut::{LastCut, reported_cut};
-use jcard_sweeps::progress::Progress;
 use crate::recoveries::recoveries;
-use jcard_sweeps::report::told;
-use jcard_sweeps::runs::run_copy;
-use jcard_sweeps::sweep_fault::TearFault;
 use crate::sweep::{left_by_probe, probe_fault};
 use itoa::Buffer;
 use jc_objects::image_objects::ImageObjects;
@@ -21,6 +17,10 @@ use jcard_outcomes::part::Share;
 use jcard_outcomes::recoveries::{Depth, Recoveries};
 use jcard_outcomes::standing::{Cut, Left, lost_of, standing_of};
 use jcard_sweeps::command::{Behind, Command};
+use jcard_sweeps::progress::Progress;
+use jcard_sweeps::report::told;
+use jcard_sweeps::runs::run_copy;
+use jcard_sweeps::sweep_fault::TearFault;
 use std::alloc::{AllocError, Global};
 
 /// The most cuts of a command.

@@ -5,15 +5,15 @@ ghost use Rattle.jcard_tear.specs.Faults.{IsLineUncut, IsOneUncut};
 ghost use Rattle.jcard_sweeps.specs.ScriptLines.{command_text, line_of};
 ghost use Rattle.jcard_tear.specs.Sweep.{AreSwept, IsLineOutcome, IsLineSwept, IsLineTold, given_of};
 
-use jcard_sweeps::command::Command;
 use crate::cuts::FollowUp;
 use crate::probes::probe_for;
-use jcard_sweeps::progress::Progress;
-use jcard_sweeps::script_lines::{ScriptLine, command_text};
-use jcard_sweeps::sweep_fault::TearFault;
 use crate::sweep::tear;
 use jcard_outcomes::each::{LineOutcome, LineSweep};
 use jcard_outcomes::report::Sweep;
+use jcard_sweeps::command::Command;
+use jcard_sweeps::progress::Progress;
+use jcard_sweeps::script_lines::{ScriptLine, command_text};
+use jcard_sweeps::sweep_fault::TearFault;
 use std::alloc::Global;
 
 /// Cuts the command in a line after each number of its writes. After each cut comes what is to follow it.

@@ -5,6 +5,12 @@ ghost use Rattle.jcard_tear.specs.ImageSweep.{IsTear, IsTorn};
 ghost use Rattle.jcard_sweeps.specs.SweepAsked.{sweep_asked_by};
 
 use crate::cuts::FollowUp;
+use crate::target_cuts::{Cutting, cut};
+use jcard_files::disk::Disk;
+use jcard_files::fault::Fault;
+use jcard_files::reading::script_of;
+use jcard_files::remarks::Remarks;
+use jcard_sweeps::asked::Asked;
 use jcard_sweeps::output::write_report;
 use jcard_sweeps::progress::Progress;
 use jcard_sweeps::remarks::remark_on_probe;
@@ -12,13 +18,7 @@ use jcard_sweeps::reported_faults::tear_fault;
 use jcard_sweeps::script_fault::Names;
 use jcard_sweeps::script_lines::commands;
 use jcard_sweeps::subject::{Subject, carry_through, image_words, lent, probe_of};
-use crate::target_cuts::{Cutting, cut};
 use jcard_sweeps::targets::target_of;
-use jcard_sweeps::asked::Asked;
-use jcard_files::disk::Disk;
-use jcard_files::fault::Fault;
-use jcard_files::reading::script_of;
-use jcard_files::remarks::Remarks;
 use jcard_texts::streams::TextOut;
 
 /// `jcard tear`: cuts a command of the script, or each, after each number of its writes, each time on a card of a copy of the image's

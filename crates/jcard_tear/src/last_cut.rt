@@ -8,16 +8,16 @@ ghost use Rattle.jcard_sweeps.specs.Runs.{IsRecovered};
 ghost use Rattle.jcard_sweeps.specs.Report.{AreOfImage};
 
 use crate::alike::{are_alike, hold_one_heap};
+use crate::answers::{answers_over, image_answers, known_of};
 use crate::cuts::{Baseline, Shared, told_cut};
 use crate::moved_image::{moved, stands_for};
-use crate::answers::{answers_over, image_answers, known_of};
-use jcard_sweeps::runs::run_copy;
-use jcard_sweeps::sweep_fault::TearFault;
 use crate::sweep::probe_fault;
 use jc_card::powered_image::PoweredImage;
 use jc_packages::known::KnownPackages;
 use jcard_outcomes::recoveries::Recoveries;
 use jcard_outcomes::standing::{Cut, Left};
+use jcard_sweeps::runs::run_copy;
+use jcard_sweeps::sweep_fault::TearFault;
 use std::alloc::{AllocError, Global};
 
 /// What is left after a recovery, and what is reported of a cut that left it.

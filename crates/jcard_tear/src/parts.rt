@@ -5,15 +5,15 @@ ghost use Rattle.jcard_tear.specs.Parts.{IsLinePart, IsPartSwept};
 ghost use Rattle.jcard_sweeps.specs.ScriptLines.{line_of};
 ghost use Rattle.jcard_tear.specs.Sweep.{given_of};
 
-use jcard_sweeps::command::Command;
 use crate::cuts::FollowUp;
-use jcard_sweeps::names::sweep_name;
 use crate::probes::probe_for;
+use crate::sweep::tear_share;
+use jcard_outcomes::part::{Part, Share};
+use jcard_sweeps::command::Command;
+use jcard_sweeps::names::sweep_name;
 use jcard_sweeps::progress::Progress;
 use jcard_sweeps::script_lines::ScriptLine;
 use jcard_sweeps::sweep_fault::TearFault;
-use crate::sweep::tear_share;
-use jcard_outcomes::part::{Part, Share};
 use std::alloc::Global;
 
 /// Cuts the command in a line after the numbers of writes in a part: `first`, and each `step`-th number after it. After each cut comes what is to

@@ -9,7 +9,6 @@ ghost use Rattle.jcard_sweeps.specs.Faults.{IsLeftFault, IsLogFault};
 ghost use Rattle.jcard_tear.specs.Recoveries.{AreRecoveries, AreTheSame, ComesToAnother, ComesToTheSame, IsSameLeft, NamesEachOnce};
 ghost use Rattle.jcard_sweeps.specs.Runs.{IsLeft};
 
-use jcard_sweeps::runs::{BAD_LOG, RunFault, left, words_of};
 use jc_commit::{Journal, OpenRefusal};
 use jc_words::layout::{
     CAPACITY_WORD, COUNT, FIRST_VERSION, JOURNAL_WORD, LEAST_SIZE, VERSION_WORD,
@@ -17,6 +16,7 @@ use jc_words::layout::{
 use jc_words::{FuseStore, Log, MemStore};
 use jcard_outcomes::recoveries::{Depth, Recoveries};
 use jcard_outcomes::standing::Left;
+use jcard_sweeps::runs::{BAD_LOG, RunFault, left, words_of};
 use std::alloc::Global;
 
 /// Cuts recoveries of these words, as many as this one after the other, and compares what the next one comes to with what

@@ -9,19 +9,19 @@ ghost use Rattle.jcard_sweeps.specs.Faults.{IsImageFault, IsProbeFault, told_run
 ghost use Rattle.jcard_tear.specs.Faults.{IsUncutFor, told_probe_fault};
 ghost use Rattle.jc_objects.specs.Pins.{AreTriesIn};
 
-use crate::cuts::{Baseline, cut_all};
-use jcard_sweeps::command::Command;
-use jcard_sweeps::progress::Progress;
-use crate::recoveries::are_equal;
-use jcard_sweeps::report::{left_told, objects_asked};
-use jcard_sweeps::runs::{RunFault, left, recovered, run_copy, run_told};
 use crate::answers::answers_over;
+use crate::cuts::{Baseline, cut_all};
+use crate::recoveries::are_equal;
 use jc_objects::pins::try_words;
 use jc_packages::fault::ReadFault;
 use jcard_outcomes::part::Share;
 use jcard_outcomes::report::Sweep;
 use jcard_outcomes::standing::Left;
+use jcard_sweeps::command::Command;
 use jcard_sweeps::last_line::last_line;
+use jcard_sweeps::progress::Progress;
+use jcard_sweeps::report::{left_told, objects_asked};
+use jcard_sweeps::runs::{RunFault, left, recovered, run_copy, run_told};
 use jcard_sweeps::sweep_fault::{DAMAGED, TearFault};
 use std::alloc::{AllocError, Global};
 

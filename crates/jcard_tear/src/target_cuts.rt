@@ -5,19 +5,19 @@ ghost use Rattle.jcard_sweeps.specs.Targets.{IsAmong};
 
 use crate::cuts::FollowUp;
 use crate::each::{tear_each, tear_line};
-use jcard_sweeps::names::commands_name;
 use crate::parts::tear_line_part;
+use jcard_outcomes::command_shares::share_lines;
+use jcard_outcomes::each::{are_all_or_nothing, verdicts};
+use jcard_outcomes::part::{Share, part_lines};
+use jcard_outcomes::report::report;
+use jcard_outcomes::verdict::is_all_or_nothing;
+use jcard_sweeps::names::commands_name;
 use jcard_sweeps::progress::Progress;
 use jcard_sweeps::script_lines::ScriptLine;
 use jcard_sweeps::shares::share_in;
 use jcard_sweeps::subject::Subject;
 use jcard_sweeps::sweep_fault::TearFault;
 use jcard_sweeps::targets::Target;
-use jcard_outcomes::command_shares::share_lines;
-use jcard_outcomes::each::{are_all_or_nothing, verdicts};
-use jcard_outcomes::part::{Share, part_lines};
-use jcard_outcomes::report::report;
-use jcard_outcomes::verdict::is_all_or_nothing;
 use std::alloc::Global;
 
 /// How commands of a script are cut.
