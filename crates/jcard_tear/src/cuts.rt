@@ -14,7 +14,7 @@ use crate::sweep::{left_by_probe, probe_fault};
 use itoa::Buffer;
 use jc_objects::image_objects::ImageObjects;
 use jcard_outcomes::part::Share;
-use jcard_outcomes::recoveries::{Depth, Recoveries};
+use jcard_outcomes::recoveries::Recoveries;
 use jcard_outcomes::standing::{Cut, Left, lost_of, standing_of};
 use jcard_sweeps::command::{Behind, Command};
 use jcard_sweeps::progress::Progress;

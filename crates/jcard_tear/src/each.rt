@@ -1,5 +1,5 @@
 //! The commands of a script, each cut after each number of its writes.
-ghost use Rattle.std.specs.Prelude.{◌≡◌, ◌<◌, ◌++◌, ◌∷◌, [], length, map, IfOk, MatchResult};
+ghost use Rattle.std.specs.Prelude.{◌≡◌, ◌<◌, ◌++◌, ◌∷◌, [], length, map, MatchResult};
 ghost use Rattle.jcard_sweeps.specs.declared.sweep_fault.TearFault.TheVariants.{NoMemory};
 ghost use Rattle.jcard_tear.specs.Faults.{IsLineUncut, IsOneUncut};
 ghost use Rattle.jcard_sweeps.specs.ScriptLines.{command_text, line_of};

@@ -1,11 +1,9 @@
 //! A command that is cut after each number of its writes, beside what was before it and what it leaves.
 ghost use Rattle.std.specs.Prelude.{◌≡◌, ◌<◌, ◌+◌, ◌*◌, ◌++◌, ℕ, length, vec_len, IfOk, IfSome, IsTrue, MatchResult};
-ghost use Rattle.jcard_sweeps.specs.declared.sweep_fault.TearFault.TheVariants.{NoMemory};
 ghost use Rattle.jcard_tear.specs.KeptCard.{HasAnswered, IsKnown};
-ghost use Rattle.jcard_sweeps.specs.LastLine.{IsLastLine};
 ghost use Rattle.jcard_tear.specs.Sweep.{IsBegun, IsDone, IsSwept, IsSweptBy};
 ghost use Rattle.jcard_sweeps.specs.Runs.{IsLeft, IsRecovered};
-ghost use Rattle.jcard_sweeps.specs.Faults.{IsImageFault, IsProbeFault, told_run_fault};
+ghost use Rattle.jcard_sweeps.specs.Faults.{IsImageFault, IsProbeFault};
 ghost use Rattle.jcard_tear.specs.Faults.{IsUncutFor, told_probe_fault};
 ghost use Rattle.jc_objects.specs.Pins.{AreTriesIn};
 
