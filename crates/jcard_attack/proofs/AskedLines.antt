@@ -2,7 +2,7 @@
 use Rattle.std.proofs.Common.{◌≡◌, ◌∙◌, ℕ, List, [], Option, Some, None, ap, refl}
 use Rattle.std.specs.Borrow.{Bor}
 use Rattle.std.specs.Option.{unwrap_or}
-use Rattle.jcard_tear.specs.Texts.{text_of}
+use Rattle.jcard_sweeps.specs.Texts.{text_of}
 
 lent_or : (lent : Option (Bor (List ℕ))) (other : Bor (List ℕ)) → other.now ≡ [] → (unwrap_or lent other).now ≡ unwrap_or (text_of lent) []
 lent_or None other none = none

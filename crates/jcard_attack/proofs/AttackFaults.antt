@@ -1,9 +1,9 @@
 -- Why a command was not attacked.
 use Rattle.std.proofs.Common.{◌≡◌, ◌⊎◌, ◌++◌, ℕ, List, inl, inr, codes, subst, sym}
 use Rattle.jcard_script.specs.declared.script.ScriptFault.{ScriptFault}
-use Rattle.jcard_tear.specs.Runs.{IsRunFault}
-use Rattle.jcard_tear.specs.declared.runs.RunFault.{RunFault}
-use Rattle.jcard_tear.specs.declared.runs.RunFault.TheVariants as run
+use Rattle.jcard_sweeps.specs.Runs.{IsRunFault}
+use Rattle.jcard_sweeps.specs.declared.runs.RunFault.{RunFault}
+use Rattle.jcard_sweeps.specs.declared.runs.RunFault.TheVariants as run
 use Rattle.jcard_attack.specs.Aftermaths.{IsScriptFor, IsUnfinished, in_probe, lines_counted, probed_script, told_run_fault}
 use Rattle.jcard_attack.specs.Sweep.{IsTraceFault, IsUnswept}
 use Rattle.jcard_attack.specs.declared.aftermaths.AttackFault.{AttackFault}

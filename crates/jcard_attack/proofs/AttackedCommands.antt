@@ -1,8 +1,8 @@
 -- Lists of commands that were attacked.
 use Rattle.std.proofs.Common.{◌≡◌, ◌∙◌, ℕ, ◌+◌, ◌<◌, List, [], ◌∷◌, ◌++◌, length, get_or, take, map, ap, sym, subst}
 use Rattle.std.proofs.lemmas.List.{map-append, take_more}
-use Rattle.jcard_tear.specs.ScriptLines.{Line, line_of}
-use Rattle.jcard_tear.specs.declared.script_lines.ScriptLine.{ScriptLine}
+use Rattle.jcard_sweeps.specs.ScriptLines.{Line, line_of}
+use Rattle.jcard_sweeps.specs.declared.script_lines.ScriptLine.{ScriptLine}
 use Rattle.jcard_attack.specs.Each.{AreStruck, IsAttackedIn, IsLineStruck}
 use Rattle.jcard_attack.specs.declared.aftermaths.Attacked.{Attacked}
 use Rattle.jcard_attack.specs.declared.each.LineAttack.{LineAttack}

@@ -10,8 +10,8 @@ use Rattle.jcard_outcomes.specs.declared.join_fault.JoinFault.TheVariants as joi
 use Rattle.jcard_outcomes.specs.declared.sweep_head.HeadFault.{HeadFault}
 use Rattle.jcard_outcomes.specs.declared.sweep_head.HeadFault.TheVariants as heading
 use Rattle.jcard_outcomes.proofs.PartHeads.{bodies_of_parts, name_of_parts, parts_of_one}
-use Rattle.jcard_tear.specs.Join.{AreJoinedBy, told_share_fault}
-use Rattle.jcard_tear.specs.PartTexts.{AreFirstRead, AreUnread, IsOtherTold}
+use Rattle.jcard_sweeps.specs.Join.{AreJoinedBy, told_share_fault}
+use Rattle.jcard_sweeps.specs.PartTexts.{AreFirstRead, AreUnread, IsOtherTold}
 use Rattle.jcard_attack.specs.Output.{IsAttackTold}
 use Rattle.jcard_attack.specs.PartFiles.{AreJoinedAs, AreLinesJoinedTo, AreNamedJoined, IsJoinedTo, IsJoining}
 use Rattle.jcard_attack.specs.PartLines.{IsJoined, IsTellable, IsUnjoined, shares_text}

@@ -14,8 +14,8 @@ use Rattle.jcard_script.specs.ScriptStates.{IsSessionStore}
 use Rattle.jcard_script.specs.Session.{IsUnbroken}
 use Rattle.std.specs.Str.Lines.{strip_carriage_return}
 use Rattle.jcard_script.proofs.LongCommands.{answered_line}
-use Rattle.jcard_tear.specs.Runs.{Runs, store_of}
-use Rattle.jcard_tear.specs.Sweep.{IsLastLine}
+use Rattle.jcard_sweeps.specs.Runs.{Runs, store_of}
+use Rattle.jcard_sweeps.specs.LastLine.{IsLastLine}
 use Rattle.jcard_attack.specs.Aftermaths.{IsAftermath, attacked_script, ended_line, glitch_line, probed_script}
 use Rattle.jcard_attack.specs.KeptCard.{HasStruck, IsKeptFor, Leaves}
 use Rattle.jcard_attack.specs.declared.aftermaths.Attacked.{Attacked}

@@ -6,7 +6,7 @@ use Rattle.std.proofs.lemmas.Bool.{ne_eqb}
 use Rattle.std.proofs.lemmas.List.{drop_at, get_or-append_right, get_or_append_left, get_or_at, take_at}
 use Rattle.hex.specs.Hex.{encode_upper, encode_with, upper_digits}
 use Rattle.jcard_script.specs.Session.{IsUnbroken}
-use Rattle.jcard_tear.specs.Sweep.{IsLastLine}
+use Rattle.jcard_sweeps.specs.LastLine.{IsLastLine}
 
 -- there is no line feed among these bytes
 abbrev pub IsFree : List ℕ → Type 0

@@ -14,7 +14,7 @@ use Rattle.jcard_outcomes.specs.declared.join_fault.JoinFault.{JoinFault}
 use Rattle.jcard_outcomes.specs.declared.join_fault.JoinFault.TheVariants as joining
 use Rattle.jcard_attack.specs.PartLines.{AFault, AnEnd, AreLinesTo, AreOfParts, IsFaultLine, IsJoined, IsTellable, IsUnjoined, PartLine, ends_in, fault_line, fault_lines, faults_in, faults_told, first_name, joined_text, share_text, shares_text, tells, told_accepted, told_as, told_silent, undisturbed_line, verdict_told}
 use Rattle.jcard_attack.specs.Report.{FaultTold, accepted_line, any_accepted, count_of, fault_name, fault_told, first_of, instruction_lines, is_outcome, outcome_text, report_text, rows_text, silence_line, undisturbed_text, verdict_text}
-use Rattle.jcard_tear.specs.Shares.{share_in, share_size}
+use Rattle.jcard_sweeps.specs.Shares.{share_in, share_size}
 use Rattle.jcard_attack.specs.declared.join.JoinedAttack.{JoinedAttack}
 use Rattle.jcard_attack.specs.declared.outcomes.AttackSweep.{AttackSweep}
 use Rattle.jcard_attack.specs.declared.outcomes.Outcome.{Outcome}

@@ -9,10 +9,10 @@ use Rattle.jcard_outcomes.specs.declared.standing.Left.{Left}
 use Rattle.jcard_script.specs.Script.{faults_text}
 use Rattle.jcard_script.specs.declared.script.ScriptFault.{ScriptFault}
 use Rattle.jcard_script.specs.declared.script.ScriptFault.TheVariants.{BadLine, PowerFault}
-use Rattle.jcard_tear.specs.Runs.{IsRunFault, Runs}
-use Rattle.jcard_tear.specs.Sweep.{IsLastLine}
-use Rattle.jcard_tear.specs.declared.runs.RunFault.{RunFault}
-use Rattle.jcard_tear.specs.declared.runs.RunFault.TheVariants as run
+use Rattle.jcard_sweeps.specs.Runs.{IsRunFault, Runs}
+use Rattle.jcard_sweeps.specs.LastLine.{IsLastLine}
+use Rattle.jcard_sweeps.specs.declared.runs.RunFault.{RunFault}
+use Rattle.jcard_sweeps.specs.declared.runs.RunFault.TheVariants as run
 use Rattle.jcard_attack.specs.declared.aftermaths.AttackFault.{AttackFault}
 use Rattle.jcard_attack.specs.declared.aftermaths.AttackFault.TheVariants.{NoMemory, Script, Probe, Down, TooManyInstructions}
 use Rattle.jcard_attack.specs.declared.aftermaths.Attacked.{Attacked}

@@ -1,9 +1,9 @@
 -- What is asked of a sweep of faults.
 use Rattle.std.specs.Prelude.{ℕ, Bool, List, Option}
 use Rattle.jcard_outcomes.specs.declared.recoveries.Depth.TheVariants.{Zero}
-use Rattle.jcard_tear.specs.SweepAsked.{SweepAsked}
-use Rattle.jcard_tear.specs.Texts.{text_of}
-use Rattle.jcard_tear.specs.declared.cuts.Behind.{Behind}
+use Rattle.jcard_sweeps.specs.SweepAsked.{SweepAsked}
+use Rattle.jcard_sweeps.specs.Texts.{text_of}
+use Rattle.jcard_sweeps.specs.declared.command.Behind.{Behind}
 use Rattle.jcard_attack.specs.declared.image_sweep.AskedAttack.{AskedAttack}
 use Rattle.jcard_attack.specs.declared.sweep.Sought.{Sought}
 

@@ -2,7 +2,7 @@
 use Rattle.std.specs.Prelude.{ℕ, ◌≡◌, ◌⊎◌, Bool, true, false, List, [], ◌∷◌, ◌++◌, codes, None, Some, slice_get}
 use Rattle.std.specs.List.{flat_map, list_any}
 use Rattle.jcard_outcomes.specs.Report.{line_answer_text, line_command_text}
-use Rattle.jcard_tear.specs.ScriptLines.{Line, command_text}
+use Rattle.jcard_sweeps.specs.ScriptLines.{Line, command_text}
 use Rattle.jcard_attack.specs.Report.{any_accepted, told_rows, verdict_text}
 use Rattle.jcard_attack.specs.Sweep.{IsDownAt, IsSwept, IsUnswept}
 use Rattle.jcard_attack.specs.declared.aftermaths.AttackFault.{AttackFault}

@@ -4,10 +4,10 @@ use Rattle.std.specs.Option.{unwrap_or}
 use Rattle.jcard_files.specs.Effects.{FindsThen, ReadsThen, Tells, WithNoFile}
 use Rattle.jcard_files.specs.FileDeeds.{FileDeed}
 use Rattle.jcard_files.specs.declared.fault.Fault.{Fault}
-use Rattle.jcard_tear.specs.Subject.{CarriesThen, IsProbeRead, IsProbeUnread}
-use Rattle.jcard_tear.specs.Targets.{IsNoTarget, IsTarget}
-use Rattle.jcard_tear.specs.declared.subject.Subject.{Subject}
-use Rattle.jcard_tear.specs.declared.targets.Target.{Target}
+use Rattle.jcard_sweeps.specs.Subject.{CarriesThen, IsProbeRead, IsProbeUnread}
+use Rattle.jcard_sweeps.specs.Targets.{IsNoTarget, IsTarget}
+use Rattle.jcard_sweeps.specs.declared.subject.Subject.{Subject}
+use Rattle.jcard_sweeps.specs.declared.targets.Target.{Target}
 use Rattle.jcard_attack.specs.AttackAsked.{AttackAsked, attack_asked_by, sweep_of}
 use Rattle.jcard_attack.specs.Output.{IsAttackTold}
 use Rattle.jcard_attack.specs.ReportedFaults.{IsAttackFault}

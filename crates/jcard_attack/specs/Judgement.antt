@@ -1,7 +1,7 @@
 -- What a fault makes of a command, beside the command without one.
 use Rattle.std.specs.Prelude.{ℕ, ◌≡◌, ◌-◌, ◌&&◌, not, Bool, true, false, if◌then◌else◌, List, [], ◌∷◌, codes, drop, length}
 use Rattle.std.specs.Str.{bytes_eq}
-use Rattle.jcard_tear.specs.Sweep.{IsLastLine}
+use Rattle.jcard_sweeps.specs.LastLine.{IsLastLine}
 use Rattle.jcard_outcomes.specs.Heaps.{StandsAsAfter}
 use Rattle.jcard_outcomes.specs.Standing as standings
 use Rattle.jcard_outcomes.specs.declared.standing.Left.{Left}

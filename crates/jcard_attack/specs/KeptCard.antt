@@ -10,7 +10,7 @@ use Rattle.jcard_outcomes.specs.declared.standing.Left.{Left}
 use Rattle.jcard_script.specs.Begun.{AnswersLines, HasBegun, IsCommandLine}
 use Rattle.jcard_script.specs.Script.{planned_text, text_of}
 use Rattle.jcard_script.specs.ScriptStates.{IsSessionStore}
-use Rattle.jcard_tear.specs.Runs.{store_of}
+use Rattle.jcard_sweeps.specs.Runs.{store_of}
 use Rattle.jcard_attack.specs.Aftermaths.{attacked_script}
 use Rattle.jcard_attack.specs.declared.aftermaths.Attacked.{Attacked}
 use Rattle.jcard_attack.specs.declared.kept_card.AtCommand.{AtCommand}

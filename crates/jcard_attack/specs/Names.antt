@@ -2,8 +2,8 @@
 use Rattle.std.specs.Prelude.{ℕ, ◌++◌, Bool, if◌then◌else◌, List, Some, codes, decimal, drop, take}
 use Rattle.std.specs.Str.{bytes_eq}
 use Rattle.jcard_outcomes.specs.declared.models.Models.{Models}
-use Rattle.jcard_tear.specs.Names.{commands_name}
-use Rattle.jcard_tear.specs.ScriptLines.{Line}
+use Rattle.jcard_sweeps.specs.Names.{commands_name}
+use Rattle.jcard_sweeps.specs.ScriptLines.{Line}
 use Rattle.jcard_attack.specs.AttackAsked.{attack_asked_by, behind_of}
 use Rattle.jcard_attack.specs.declared.sweep.Sought.{Sought}
 use Rattle.jcard_attack.specs.declared.target_attacks.Attacking.{Attacking}

@@ -3,7 +3,7 @@ use Rattle.std.specs.Prelude.{◌≡◌, Option}
 use Rattle.jc_card.specs.declared.power_up.PowerFault.TheVariants.{BadPackage}
 use Rattle.jc_objects.specs.declared.image_objects.ImageObjects.{ImageObjects}
 use Rattle.jcard_script.specs.declared.script.ScriptFault.TheVariants.{PowerFault}
-use Rattle.jcard_tear.specs.Report.{IsTold}
+use Rattle.jcard_sweeps.specs.Report.{IsTold}
 use Rattle.jcard_attack.specs.declared.aftermaths.AttackFault.{AttackFault}
 use Rattle.jcard_attack.specs.declared.aftermaths.AttackFault.TheVariants.{NoMemory, Probe}
 use Rattle.jcard_attack.specs.declared.outcomes.Aftermath.{Aftermath}

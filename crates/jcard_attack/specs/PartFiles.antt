@@ -16,8 +16,8 @@ use Rattle.jcard_outcomes.specs.declared.report.Sweep.{Sweep}
 use Rattle.jcard_outcomes.specs.declared.sweep_head.HeadFault.{HeadFault}
 use Rattle.jcard_outcomes.specs.declared.sweep_kind.SweepKind.{SweepKind}
 use Rattle.jcard_outcomes.specs.declared.sweep_kind.SweepKind.TheVariants.{Cuts}
-use Rattle.jcard_tear.specs.Join.{AreJoinedBy, IsReported, told_share_fault}
-use Rattle.jcard_tear.specs.PartTexts.{AreFirstRead, AreRead, AreUnread, IsOtherTold}
+use Rattle.jcard_sweeps.specs.Join.{AreJoinedBy, IsReported, told_share_fault}
+use Rattle.jcard_sweeps.specs.PartTexts.{AreFirstRead, AreRead, AreUnread, IsOtherTold}
 use Rattle.jcard_attack.specs.Names.{is_of_faults}
 use Rattle.jcard_attack.specs.Output.{IsAttackTold}
 use Rattle.jcard_attack.specs.PartLines.{IsJoined, IsTellable, IsUnjoined, shares_text}

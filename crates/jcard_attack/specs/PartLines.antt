@@ -9,7 +9,7 @@ use Rattle.jcard_outcomes.specs.declared.join_fault.JoinFault.{JoinFault}
 use Rattle.jcard_outcomes.specs.declared.join_fault.JoinFault.TheVariants.{BadLine, NoMemory}
 use Rattle.jcard_outcomes.specs.declared.part.Share.{Share}
 use Rattle.jcard_attack.specs.Report.{FaultTold, accepted_line, any_accepted, fault_told, instruction_lines, report_text, rows_text, silence_line, told_by, undisturbed_text}
-use Rattle.jcard_tear.specs.Shares.{share_in}
+use Rattle.jcard_sweeps.specs.Shares.{share_in}
 use Rattle.jcard_attack.specs.declared.join.JoinedAttack.{JoinedAttack}
 use Rattle.jcard_attack.specs.declared.join.ReadLines.{ReadLines}
 use Rattle.jcard_attack.specs.declared.outcomes.AttackSweep.{AttackSweep}

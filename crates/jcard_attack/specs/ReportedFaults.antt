@@ -2,7 +2,7 @@
 use Rattle.std.specs.Prelude.{ℕ, ◌≡◌, List}
 use Rattle.jcard_files.specs.declared.fault.Fault.{Fault}
 use Rattle.jcard_files.specs.declared.fault.Fault.TheVariants.{Down, NoMemory, TooManyInstructions}
-use Rattle.jcard_tear.specs.ReportedFaults.{IsFaultInMemory, IsProbeFaultInMemory}
+use Rattle.jcard_sweeps.specs.ReportedFaults.{IsFaultInMemory, IsProbeFaultInMemory}
 use Rattle.jcard_attack.specs.declared.aftermaths.AttackFault.{AttackFault}
 use Rattle.jcard_attack.specs.declared.aftermaths.AttackFault.TheVariants as attack
 

@@ -4,8 +4,8 @@ use Rattle.std.specs.Bool.{MatchBool}
 use Rattle.jc_card.specs.declared.planned_fault.PlannedFault.{PlannedFault}
 use Rattle.jcard_outcomes.specs.declared.part.Share.{Share}
 use Rattle.jcard_outcomes.specs.declared.standing.Left.{Left}
-use Rattle.jcard_tear.specs.Report.{AreObjectsAsked, IsTold}
-use Rattle.jcard_tear.specs.Shares.{share_in}
+use Rattle.jcard_sweeps.specs.Report.{AreObjectsAsked, IsTold}
+use Rattle.jcard_sweeps.specs.Shares.{share_in}
 use Rattle.jcard_attack.specs.Aftermaths.{IsAftermath, IsBegun, IsUnfinished}
 use Rattle.jcard_attack.specs.Judgement.{IsLastAnswer, IsSameAs, IsStanding, gives_access, judged}
 use Rattle.jcard_attack.specs.Models.{faults_tried, kinds_tried}

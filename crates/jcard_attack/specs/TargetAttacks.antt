@@ -3,10 +3,10 @@ use Rattle.std.specs.Prelude.{ℕ, ◌≡◌, ◌++◌, false, not, List, map, S
 use Rattle.jcard_outcomes.specs.CommandShares.{share_text}
 use Rattle.jcard_outcomes.specs.Part.{head_text}
 use Rattle.jcard_outcomes.specs.declared.part.Share.{Share}
-use Rattle.jcard_tear.specs.ScriptLines.{Line, line_of}
-use Rattle.jcard_tear.specs.Shares.{share_in}
-use Rattle.jcard_tear.specs.declared.targets.Target.{Target}
-use Rattle.jcard_tear.specs.declared.targets.Target.TheVariants.{Command, CommandPart, Each, EachPart}
+use Rattle.jcard_sweeps.specs.ScriptLines.{Line, line_of}
+use Rattle.jcard_sweeps.specs.Shares.{share_in}
+use Rattle.jcard_sweeps.specs.declared.targets.Target.{Target}
+use Rattle.jcard_sweeps.specs.declared.targets.Target.TheVariants.{Command, CommandPart, Each, EachPart}
 use Rattle.jcard_attack.specs.Each.{AreStruck, IsAttackedIn, IsOneUnswept, any_line_accepted, verdicts_text}
 use Rattle.jcard_attack.specs.Names.{attack_name, faults_name}
 use Rattle.jcard_attack.specs.PartLines.{part_text}

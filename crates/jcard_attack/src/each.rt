@@ -4,7 +4,7 @@ ghost use Rattle.jcard_attack.specs.Each.{AreStruck, IsLineStruck, IsLineUnswept
 ghost use Rattle.jcard_attack.specs.Report.{verdict_text};
 ghost use Rattle.jcard_attack.specs.declared.aftermaths.AttackFault.TheVariants.{NoMemory};
 ghost use Rattle.jcard_outcomes.specs.Report.{line_answer_text};
-ghost use Rattle.jcard_tear.specs.ScriptLines.{line_of};
+ghost use Rattle.jcard_sweeps.specs.ScriptLines.{line_of};
 
 use crate::aftermaths::{AttackFault, Attacked};
 use crate::outcomes::AttackSweep;
@@ -12,8 +12,8 @@ use crate::report::push_told;
 use crate::sweep::{Sought, attack};
 use crate::verdict::{is_any_accepted, push_verdict};
 use jcard_outcomes::each::{line_head, push_down_line};
-use jcard_tear::each::command_text;
-use jcard_tear::script_lines::ScriptLine;
+use jcard_sweeps::script_lines::command_text;
+use jcard_sweeps::script_lines::ScriptLine;
 use std::alloc::{AllocError, Global};
 
 /// What becomes of a command of a script.

@@ -6,7 +6,7 @@ use crate::outcomes::{Aftermath, Outcome};
 use jcard_outcomes::heaps::is_as_after;
 use jcard_outcomes::rows::is_same;
 use jcard_outcomes::standing::{Left, Standing, standing_of};
-use jcard_tear::sweep::last_line;
+use jcard_sweeps::last_line::last_line;
 
 /// The status word of an uncaught exception and of a code fault.
 const BROKEN_OFF: &[u8] = b"6F00";

@@ -13,7 +13,7 @@ use jc_card::response::Response;
 use jc_words::{FuseStore, MemStore};
 use jcard_outcomes::standing::Left;
 use jcard_script::begun::{BegunScript, begin_script, command_of_line};
-use jcard_tear::runs::{probed, recovered, words_of};
+use jcard_sweeps::runs::{probed, recovered, words_of};
 use std::alloc::{AllocError, Global};
 
 /// A card that has carried out the lines before a command, and the bytes of the command.

@@ -1,15 +1,15 @@
 //! The name of a sweep of faults, by which its parts know one another.
 ghost use Rattle.std.specs.Prelude.{◌≡◌, ◌<◌, ◌++◌, length, IfOk, OnOk};
 ghost use Rattle.jcard_attack.specs.Names.{attack_name, faults_name, faults_text, is_of_faults, models_text};
-ghost use Rattle.jcard_tear.specs.ScriptLines.{line_of};
+ghost use Rattle.jcard_sweeps.specs.ScriptLines.{line_of};
 
 use crate::image_sweep::behind_of;
 use crate::sweep::Sought;
 use crate::target_attacks::Attacking;
 use jcard_outcomes::models::Models;
 use jcard_outcomes::rows::{is_same, push_number};
-use jcard_tear::names::commands_name;
-use jcard_tear::script_lines::ScriptLine;
+use jcard_sweeps::names::commands_name;
+use jcard_sweeps::script_lines::ScriptLine;
 use std::alloc::{AllocError, Global};
 
 // How many digits the checksum has with which a name begins.

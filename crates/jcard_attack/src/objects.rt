@@ -1,15 +1,15 @@
 //! What is reported of objects, where it is asked for.
 ghost use Rattle.std.specs.Prelude.{◌≡◌, IfOk, MatchResult};
 ghost use Rattle.jcard_attack.specs.Objects.{IsAftermathTold, IsObjectsFault};
-ghost use Rattle.jcard_tear.specs.Faults.{IsImageFault};
-ghost use Rattle.jcard_tear.specs.Report.{AreObjectsAsked, AreOfImage};
+ghost use Rattle.jcard_sweeps.specs.Faults.{IsImageFault};
+ghost use Rattle.jcard_sweeps.specs.Report.{AreObjectsAsked, AreOfImage};
 
 use crate::aftermaths::AttackFault;
 use crate::outcomes::Aftermath;
 use jc_objects::image_objects::ImageObjects;
 use jcard_outcomes::standing::Left;
-use jcard_tear::report::{left_told, objects_asked};
-use jcard_tear::sweep::TearFault;
+use jcard_sweeps::report::{left_told, objects_asked};
+use jcard_sweeps::sweep_fault::TearFault;
 use std::alloc::{AllocError, Global};
 
 /// The objects that stood before a command, where it is asked which of their cells changed.

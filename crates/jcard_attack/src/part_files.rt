@@ -3,7 +3,7 @@
 ghost use Rattle.std.specs.Prelude.{◌≡◌, ◌<◌, map, length};
 ghost use Rattle.jcard_files.specs.Effects.{Does, Writes};
 ghost use Rattle.jcard_attack.specs.PartFiles.{AreFaultsJoinedTo, AreLinesJoinedTo, AreNamedJoined, IsJoinedTo, IsJoining};
-ghost use Rattle.jcard_tear.specs.Texts.{texts_of};
+ghost use Rattle.jcard_sweeps.specs.Texts.{texts_of};
 
 use crate::join::join_lines;
 use crate::names::is_of_faults;
@@ -13,8 +13,8 @@ use jcard_files::fault::Fault;
 use jcard_outcomes::command_shares::join_shares;
 use jcard_outcomes::sweep_head::bodies_of;
 use jcard_outcomes::sweep_kind::kind_of;
-use jcard_tear::join::{join_bodies, share_fault};
-use jcard_tear::part_texts::{head_fault, texts_of};
+use jcard_sweeps::join::{join_bodies, share_fault};
+use jcard_sweeps::part_texts::{head_fault, texts_of};
 use jcard_texts::streams::TextOut;
 use std::alloc::Global;
 

@@ -5,8 +5,8 @@ ghost use Rattle.jcard_attack.specs.ReportedFaults.{IsAttackFault};
 
 use crate::aftermaths::AttackFault;
 use jcard_files::fault::Fault;
-use jcard_tear::reported_faults::{tear_probe_fault, tear_script_fault};
-use jcard_tear::script_fault::Names;
+use jcard_sweeps::reported_faults::{tear_probe_fault, tear_script_fault};
+use jcard_sweeps::script_fault::Names;
 
 /// What it means that a command was not attacked.
 pub(crate) fn attack_fault<'n>(names: Names<'n>, cause: AttackFault) -> Fault<'n>

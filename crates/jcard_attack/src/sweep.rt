@@ -6,7 +6,7 @@ ghost use Rattle.jcard_attack.specs.Models.{faults_tried, kinds_tried};
 ghost use Rattle.jcard_attack.specs.Sweep.{AreStruckBy, IsStruck, IsSwept, IsTraceFault, IsUnswept, asked_in};
 ghost use Rattle.jcard_attack.specs.declared.aftermaths.Attacked.{Attacked as AnAttacked};
 ghost use Rattle.jcard_attack.specs.declared.aftermaths.AttackFault.TheVariants.{NoMemory};
-ghost use Rattle.jcard_tear.specs.Report.{AreOfImage};
+ghost use Rattle.jcard_sweeps.specs.Report.{AreOfImage};
 
 use crate::aftermaths::{AttackFault, Attacked, aftermath, begun};
 use crate::judgement::{compared, gives_access, is_same_as, judged, last_answer};
@@ -21,8 +21,8 @@ use jcard_outcomes::models::Models;
 use jcard_outcomes::part::Share;
 use jcard_outcomes::rows::is_same;
 use jcard_outcomes::standing::Left;
-use jcard_tear::report::told;
-use jcard_tear::shares::share_in;
+use jcard_sweeps::report::told;
+use jcard_sweeps::shares::share_in;
 use std::alloc::{AllocError, Global};
 
 /// How many bytes are taken once; copies of a card of the largest image take less.

@@ -2,8 +2,8 @@
 ghost use Rattle.std.specs.Prelude.{◌<◌, length, MatchResult};
 ghost use Rattle.jcard_attack.specs.Sweep.{IsUnswept};
 ghost use Rattle.jcard_attack.specs.TargetAttacks.{AreToldEach, AreToldIn, AreUntoldEach, AreUntoldIn, IsCommandTold, IsToldBy, IsToldPart, IsUntoldBy};
-ghost use Rattle.jcard_tear.specs.ScriptLines.{line_of};
-ghost use Rattle.jcard_tear.specs.Targets.{IsAmong};
+ghost use Rattle.jcard_sweeps.specs.ScriptLines.{line_of};
+ghost use Rattle.jcard_sweeps.specs.Targets.{IsAmong};
 
 use crate::aftermaths::{AttackFault, Attacked};
 use crate::each::{
@@ -17,11 +17,11 @@ use crate::report::{is_any_accepted, report};
 use crate::sweep::{Sought, attack};
 use jcard_outcomes::command_shares::share_lines;
 use jcard_outcomes::part::Share;
-use jcard_tear::progress::Progress;
-use jcard_tear::script_lines::ScriptLine;
-use jcard_tear::shares::share_in;
-use jcard_tear::subject::Subject;
-use jcard_tear::targets::Target;
+use jcard_sweeps::progress::Progress;
+use jcard_sweeps::script_lines::ScriptLine;
+use jcard_sweeps::shares::share_in;
+use jcard_sweeps::subject::Subject;
+use jcard_sweeps::targets::Target;
 use std::alloc::Global;
 
 /// How commands of a script are attacked.

@@ -1,7 +1,7 @@
 //! The instructions that a command carries out without a fault.
 ghost use Rattle.std.specs.Prelude.{◌≡◌, ◌<◌, length, IfErr};
-ghost use Rattle.jcard_tear.specs.Runs.{IsRunFault};
-ghost use Rattle.jcard_tear.specs.declared.runs.RunFault.TheVariants.{NoMemory};
+ghost use Rattle.jcard_sweeps.specs.Runs.{IsRunFault};
+ghost use Rattle.jcard_sweeps.specs.declared.runs.RunFault.TheVariants.{NoMemory};
 ghost use Rattle.jcard_attack.specs.Sweep.{IsTraceFault, IsUnswept};
 
 use crate::aftermaths::{AttackFault, Attacked, attacked_script};
@@ -9,8 +9,8 @@ use jc_words::{FuseStore, MemStore};
 use jcard_script::expectations::Expectations;
 use jcard_script::explainer::Explainer;
 use jcard_script::script::{ScriptFault, run_script_explained};
-use jcard_tear::kept_text::KeptText;
-use jcard_tear::runs::RunFault;
+use jcard_sweeps::kept_text::KeptText;
+use jcard_sweeps::runs::RunFault;
 use jcard_texts::mem_text::MemText;
 use jcard_why::covers::Cover;
 use jcard_why::explanation::{TracedLines, Wanted};

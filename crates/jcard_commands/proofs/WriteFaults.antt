@@ -7,7 +7,7 @@ use Rattle.jcard_script.specs.declared.script.ScriptFault.TheVariants as cause
 use Rattle.jcard_script.specs.Script.{is_write_failed}
 use Rattle.jcard_files.specs.declared.fault.Fault.{Fault}
 use Rattle.jcard_files.specs.Fault.{is_unwritten}
-use Rattle.jcard_tear.specs.ScriptFault.{IsScriptFault, IsUnpowered}
+use Rattle.jcard_sweeps.specs.ScriptFault.{IsScriptFault, IsUnpowered}
 use Rattle.jcard_commands.specs.RunOptions.{ended_by}
 
 unpowered_written : (image : List ℕ) (why : PowerFault) (fault : Fault) → IsUnpowered image why fault → is_unwritten (Err fault) ≡ false

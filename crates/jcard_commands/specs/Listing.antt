@@ -12,7 +12,7 @@ use Rattle.jcard_dump.specs.Dump.{IsObjectsDump}
 use Rattle.jcard_texts.specs.Texts.{IsCutOf}
 use Rattle.jcard_attack.specs.AttackAsked as sweeps
 use Rattle.jcard_attack.specs.ImageSweep.{IsAttack}
-use Rattle.jcard_tear.specs.SweepAsked.{SweepAsked}
+use Rattle.jcard_sweeps.specs.SweepAsked.{SweepAsked}
 use Rattle.jcard_tear.specs.ImageSweep.{IsTear}
 use Rattle.jcard_files.specs.Effects.{Says, Tells}
 use Rattle.jcard_why.specs.NamedText.{HasNames}

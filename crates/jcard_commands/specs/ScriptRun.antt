@@ -11,7 +11,7 @@ use Rattle.jcard_files.specs.Effects.{Says, Tells}
 use Rattle.jcard_files.specs.FileDeeds.{ClosesImage, OpensImage, ReadsText, fresh_store, untouched}
 use Rattle.jcard_files.specs.Images.{IsNotOpenedToWrite, IsUnopened}
 use Rattle.jcard_files.specs.declared.fault.Fault.{Fault}
-use Rattle.jcard_tear.specs.ScriptFault.{IsOutcomeOf}
+use Rattle.jcard_sweeps.specs.ScriptFault.{IsOutcomeOf}
 
 -- the script, of whose bytes so much was known before and is known after, was carried out to this end, with this budget, from one store to the other,
 -- and this text was written

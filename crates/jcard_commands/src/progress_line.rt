@@ -2,7 +2,7 @@
 
 use crate::listener::Listener;
 use jcard_files::remarks::Remarks;
-use jcard_tear::progress::Progress;
+use jcard_sweeps::progress::Progress;
 use jcard_test::timer::Timer;
 use std::rt::Clock;
 use std::time::Instant;

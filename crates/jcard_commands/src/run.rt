@@ -27,7 +27,7 @@ use jcard_files::fault::{Fault, tell};
 use jcard_files::image_size::ImageSize;
 use jcard_files::new_image::make_image;
 use jcard_files::remarks::Remarks;
-use jcard_tear::progress::Progress;
+use jcard_sweeps::progress::Progress;
 use jcard_test::request::Asked as TestRequest;
 use jcard_test::testing::test_files;
 use jcard_test::timer::Timer;

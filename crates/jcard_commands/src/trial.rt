@@ -18,7 +18,7 @@ use jcard_files::remarks::Remarks;
 use jcard_files::table_remarks::remark_on_table;
 use jcard_files::usual_table::platform_of;
 use jcard_script::script::run_script_explained;
-use jcard_tear::script_fault::Names;
+use jcard_sweeps::script_fault::Names;
 use jcard_texts::std_text::StdText;
 use jcard_texts::streams::TextOut;
 

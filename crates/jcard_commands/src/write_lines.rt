@@ -2,7 +2,7 @@
 
 use crate::listener::Listener;
 use jcard_files::remarks::Remarks;
-use jcard_tear::progress::Progress;
+use jcard_sweeps::progress::Progress;
 use std::alloc::Global;
 
 /// Somebody who is shown how far a sweep has come, and at each cut where its write was made, if that is wanted.

@@ -1,18 +1,15 @@
 -- Lists of commands that were cut.
-use Rattle.std.proofs.Common.{◌≡◌, ◌∙◌, ℕ, suc, add-one, drop, drop-cons, append_assoc, append-nil, false, true, Bool, ◌+◌, ◌<◌, ◌≤◌, List, [], ◌∷◌, ◌++◌, Option, length, get_or, take, map, ap, sym, subst, inl, inr}
+use Rattle.std.proofs.Common.{◌≡◌, ◌∙◌, ℕ, ◌+◌, ◌<◌, List, [], ◌∷◌, ◌++◌, Option, length, get_or, take, map, ap, sym, subst, inl, inr}
 use Rattle.std.proofs.lemmas.List.{map-append, take_more}
 use Rattle.jcard_outcomes.specs.declared.each.LineSweep.{LineSweep}
-use Rattle.jcard_tear.specs.ScriptLines.{Line, line_of}
-use Rattle.jcard_tear.specs.declared.cuts.Behind.{Behind}
-use Rattle.jcard_tear.specs.declared.script_lines.ScriptLine.{ScriptLine}
+use Rattle.jcard_sweeps.specs.ScriptLines.{Line, line_of}
+use Rattle.jcard_sweeps.specs.declared.command.Behind.{Behind}
+use Rattle.jcard_sweeps.specs.declared.script_lines.ScriptLine.{ScriptLine}
 use Rattle.jcard_tear.specs.Faults.{IsLineUncut}
-use Rattle.jcard_tear.specs.Runs.{Runs}
+use Rattle.jcard_sweeps.specs.Runs.{Runs}
 use Rattle.jcard_tear.specs.Sweep.{AreSwept, IsLineOutcome, IsLineTold}
-use Rattle.jcard_tear.specs.declared.sweep.TearFault.TheVariants.{Down as DownAt}
+use Rattle.jcard_sweeps.specs.declared.sweep_fault.TearFault.TheVariants.{Down as DownAt}
 use Rattle.jcard_outcomes.specs.declared.each.LineOutcome.TheVariants.{Down}
-use Rattle.jcard_tear.specs.ScriptLines.{command_text, is_blank}
-use Rattle.std.proofs.lemmas.List.{drop_all}
-use Rattle.std.specs.Prelude.{if◌then◌else◌}
 
 -- one command more
 pub swept_more : (words : List ℕ) (given : Option (List ℕ)) (behind : Behind) (lines : List Line) (sweeps : List LineSweep) (l : Line) (s : LineSweep)
@@ -52,30 +49,3 @@ down_outcome words given behind l (inr h) =
     let is = h.5 in
     let runs = subst (λ (b : Behind). Runs b.instructions words (c.before.now ++ c.line.now) is.0 is.1) h.3 is.2 in
     (is.0, is.1, subst (λ t. Runs behind.instructions words t is.0 is.1) (ap (λ t. t ++ c.line.now) h.1 ∙ ap (λ t. l.before ++ t) h.2) runs, is.3)
-
--- ---- the text of a command
-
-byte_at : (line : List ℕ) (i : ℕ) → i < length line → drop i line ≡ get_or line i 0 ∷ drop (i + 1) line
-byte_at line i h = rw add-one (drop-cons line i 0 h)
-
-text_at : (line : List ℕ) (i : ℕ) (b : Bool) → i < length line → is_blank (get_or line i 0) ≡ b
-    → command_text (drop i line) ≡ (if b then command_text (drop (i + 1) line) else get_or line i 0 ∷ command_text (drop (i + 1) line))
-unfolding command_text
-text_at line i b h e = ap command_text (byte_at line i h)
-    ∙ ap (λ x. if x then command_text (drop (i + 1) line) else get_or line i 0 ∷ command_text (drop (i + 1) line)) e
-
--- a byte belongs to it
-pub text_kept : (line text next : List ℕ) (i : ℕ) → i < length line → is_blank (get_or line i 0) ≡ false
-    → next ≡ text ++ get_or line i 0 ∷ [] → next ++ command_text (drop (i + 1) line) ≡ text ++ command_text (drop i line)
-text_kept line text next i h n e =
-    ap (λ t. t ++ command_text (drop (i + 1) line)) e ∙ append_assoc text (get_or line i 0 ∷ []) (command_text (drop (i + 1) line))
-    ∙ ap (λ t. text ++ t) (sym (text_at line i false h n))
-
--- it ends the line
-pub text_passed : (line text : List ℕ) (i : ℕ) → i < length line → is_blank (get_or line i 0) ≡ true
-    → text ++ command_text (drop (i + 1) line) ≡ text ++ command_text (drop i line)
-text_passed line text i h y = ap (λ t. text ++ t) (sym (text_at line i true h y))
-
-pub text_end : (line text : List ℕ) (i : ℕ) → length line ≤ i → text ++ command_text (drop i line) ≡ text
-unfolding command_text
-text_end line text i h = ap (λ t. text ++ command_text t) (drop_all i line h) ∙ append-nil text

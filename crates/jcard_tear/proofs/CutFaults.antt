@@ -1,18 +1,19 @@
 -- Why a command was not cut.
-use Rattle.std.proofs.Common.{◌≡◌, ◌⊎◌, ◌++◌, ◌+◌, ◌*◌, ◌<◌, ◌≤◌, ℕ, zero, suc, true, List, [], ◌∷◌, Option, Result, Ok, Err, IfErr, IsErrAnd, MatchResult, length, refl, sym, subst, inl, inr, arith}
+use Rattle.std.proofs.Common.{◌≡◌, ◌⊎◌, ◌++◌, ◌+◌, ◌*◌, ◌<◌, ◌≤◌, ℕ, zero, suc, true, List, [], ◌∷◌, length, refl, sym, subst, inl, inr, arith}
 use Rattle.std.proofs.Math.Nat.{mul-suc, suc-mul}
 use Rattle.jcard_outcomes.specs.declared.standing.Cut.{Cut}
 use Rattle.jcard_outcomes.specs.declared.standing.Left.{Left}
-use Rattle.jcard_tear.specs.Faults.{IsCarriedOut, IsCutPast, IsImageFault, IsLeftFault, IsLogFault, IsProbeFault, IsScriptFor, IsUnbegun, IsUncutFor, told_probe_fault, told_run_fault}
+use Rattle.jcard_sweeps.specs.Faults.{IsImageFault, IsLeftFault, IsProbeFault, told_run_fault}
+use Rattle.jcard_tear.specs.Faults.{IsCarriedOut, IsCutPast, IsScriptFor, IsUnbegun, IsUncutFor, told_probe_fault}
 use Rattle.jc_words.specs.Store.{FuseStoreValue}
-use Rattle.jcard_tear.specs.Runs.{IsRunFault, Runs}
+use Rattle.jcard_sweeps.specs.Runs.{IsRunFault, Runs}
 use Rattle.jcard_tear.specs.Sweep.{AreCuts, IsDone}
 use Rattle.jcard_tear.specs.declared.cuts.Baseline.{Baseline}
-use Rattle.jcard_tear.specs.declared.cuts.Command.{Command}
-use Rattle.jcard_tear.specs.declared.runs.RunFault.{RunFault}
-use Rattle.jcard_tear.specs.declared.runs.RunFault.TheVariants as run
-use Rattle.jcard_tear.specs.declared.sweep.TearFault.{TearFault}
-use Rattle.jcard_tear.specs.declared.sweep.TearFault.TheVariants.{Down, NoMemory, Probe, Script, TooManyCuts}
+use Rattle.jcard_sweeps.specs.declared.command.Command.{Command}
+use Rattle.jcard_sweeps.specs.declared.runs.RunFault.{RunFault}
+use Rattle.jcard_sweeps.specs.declared.runs.RunFault.TheVariants as run
+use Rattle.jcard_sweeps.specs.declared.sweep_fault.TearFault.{TearFault}
+use Rattle.jcard_sweeps.specs.declared.sweep_fault.TearFault.TheVariants.{Down, NoMemory, Probe, Script, TooManyCuts}
 
 -- memory was refused
 pub memory_uncut : (words : List ℕ) (c : Command) (step : ℕ) (fault : TearFault) → fault ≡ NoMemory → IsUncutFor words c step fault
@@ -50,25 +51,6 @@ down_uncut words c step text after runs down = (text, after, runs, down)
 pub done_carried : (words : List ℕ) (c : Command) (answer : List ℕ) (left : Left) → IsDone words c answer left → IsCarriedOut words c
 done_carried words c answer left done = (c.before.now ++ c.line.now, done.0, done.1, inr (inl refl), done.2)
 
--- a `?` passes on what is known of the cause
-pub passed_on : {A F : Type 0} (P : A → Type 0) {Q : F → Type 0} (R : F → Type 0) (r : Result A F) → IsErrAnd r Q → ((fault : F) → Q fault → R fault) → MatchResult r P R
-passed_on P R (Ok x) is to = absurd is
-passed_on P R (Err fault) is to = to fault is
-
--- the same of a cause that is known
-pub cause_passed_on : {A F : Type 0} (P : A → Type 0) (R : F → Type 0) (r : Result A F) (cause : F) → IsErrAnd r (λ fault. fault ≡ cause) → R cause → MatchResult r P R
-cause_passed_on P R (Ok x) cause is h = absurd is
-cause_passed_on P R (Err fault) cause is h = subst R (sym is) h
-
--- the same of a fault alone
-pub refused_on : {A F : Type 0} {Q : F → Type 0} (R : F → Type 0) (r : Result A F) → IsErrAnd r Q → ((fault : F) → Q fault → R fault) → IfErr r R
-refused_on R (Ok x) is to = tt
-refused_on R (Err fault) is to = to fault is
-
--- memory was refused for what stands in an image
-pub memory_imaged : (fault : TearFault) → fault ≡ NoMemory → IsImageFault fault
-memory_imaged fault e = subst IsImageFault (sym e) tt
-
 -- what stands in an image after a cut is bad
 pub image_probed : (budget : ℕ) (probe : List ℕ) (fault : TearFault) → IsImageFault fault → IsProbeFault budget probe fault
 image_probed budget probe NoMemory is = tt
@@ -82,20 +64,6 @@ pub left_probed : (budget : ℕ) (probe : List ℕ) (cause : RunFault) → IsLef
     → IsProbeFault budget probe fault
 left_probed budget probe run.NoMemory is fault e = subst (IsProbeFault budget probe) (sym e) tt
 left_probed budget probe (run.Script x) is fault e = subst (IsProbeFault budget probe) (sym e) is
-
-pub memory_left : (budget : ℕ) (probe : List ℕ) (fault : RunFault) → fault ≡ run.NoMemory → IsLeftFault budget probe fault
-memory_left budget probe fault e = subst (IsLeftFault budget probe) (sym e) tt
-
-pub run_left : (budget : ℕ) (words probe : List ℕ) (fault : RunFault) → IsRunFault budget words probe fault → IsLeftFault budget probe fault
-run_left budget words probe run.NoMemory is = tt
-run_left budget words probe (run.Script x) is = inl (words, is)
-
-pub log_left : (budget : ℕ) (probe : List ℕ) (fault : RunFault) → IsLogFault fault → IsLeftFault budget probe fault
-log_left budget probe run.NoMemory is = tt
-log_left budget probe (run.Script x) is = inr (inl is)
-
-pub memory_logged : (fault : RunFault) → fault ≡ run.NoMemory → IsLogFault fault
-memory_logged fault e = subst IsLogFault (sym e) tt
 
 -- memory was refused for the lines of a probe, or for what is reported
 pub memory_probed : (budget : ℕ) (probe : List ℕ) (fault : TearFault) → fault ≡ NoMemory → IsProbeFault budget probe fault

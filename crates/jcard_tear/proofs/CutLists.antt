@@ -4,7 +4,7 @@ use Rattle.std.proofs.Math.Nat.{mul-suc}
 use Rattle.jcard_outcomes.specs.declared.standing.Cut.{Cut}
 use Rattle.jcard_tear.specs.Sweep.{AreCuts, IsToldCut}
 use Rattle.jcard_tear.specs.declared.cuts.Baseline.{Baseline}
-use Rattle.jcard_tear.specs.declared.cuts.Command.{Command}
+use Rattle.jcard_sweeps.specs.declared.command.Command.{Command}
 
 -- one cut more
 pub cuts_more : (words : List ℕ) (c : Command) (b : Baseline) (k n : ℕ) (cuts : List Cut) (cut : Cut) → AreCuts words c b k n cuts

@@ -15,7 +15,7 @@ use Rattle.jc_commit.proofs.TornWrites.{stops}
 use Rattle.jc_commit.proofs.Words.{bounds_of, is_log-readable, log-same, readable}
 use Rattle.jcard_outcomes.specs.declared.standing.Left.{Left}
 use Rattle.jcard_tear.specs.Recoveries.{AreCutAfter, AreTheSame, ComesToAnother, ComesToTheSame, IsFirstDifference, IsSameLeft, MakeNoDifference, NamesEachOnce}
-use Rattle.jcard_tear.specs.Runs.{IsLeft}
+use Rattle.jcard_sweeps.specs.Runs.{IsLeft}
 
 -- ---- writes that are made again
 

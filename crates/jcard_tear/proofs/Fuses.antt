@@ -10,7 +10,7 @@ use Rattle.jc_words.specs.Layout.{capacity_address, first_version, front_capacit
 use Rattle.jc_commit.specs.Image.{with_words}
 use Rattle.jc_commit.specs.Migration.{IsPartOfOpening, opening_writes}
 use Rattle.jc_commit.specs.Replay.{replay_writes, torn_replay}
-use Rattle.jcard_tear.specs.Runs.{store_of}
+use Rattle.jcard_sweeps.specs.Runs.{store_of}
 
 counted : (n : ℕ) → n < 65536 → saturating_count 0 n ≡ n
 counted n h = omega arith

@@ -6,7 +6,7 @@ use Rattle.jc_words.specs.Layout.{first_version, version, version_address}
 use Rattle.jc_commit.specs.Image.{count_of}
 use Rattle.jc_commit.proofs.Steps.{Replayed, replayed_all, replayed_none}
 use Rattle.jc_heap.specs.Heap.Store.{IsAtRest}
-use Rattle.jcard_tear.specs.Runs.{IsRecovered}
+use Rattle.jcard_sweeps.specs.Runs.{IsRecovered}
 
 pub is_recovered : (w : List ℕ) → IsAtRest w false → IsRecovered w
 is_recovered w rests = (

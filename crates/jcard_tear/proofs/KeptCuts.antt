@@ -22,12 +22,12 @@ use Rattle.jcard_outcomes.specs.Standing.{IsStanding, lost_of}
 use Rattle.jcard_tear.specs.Faults.{IsCarriedOut}
 use Rattle.jcard_tear.specs.KeptCard.{GivesAnswers, HasAnswered, IsKeptFor, IsKnown, IsLastCut, IsReportedAlike, IsReportedAt, MayLeave, none_cut}
 use Rattle.jcard_tear.specs.Recoveries.{AreRecoveries}
-use Rattle.jcard_tear.specs.Runs.{IsLeft, IsRecovered, Runs, store_of}
+use Rattle.jcard_sweeps.specs.Runs.{IsLeft, IsRecovered, Runs, store_of}
 use Rattle.jcard_tear.specs.Sweep.{IsCutAt, IsToldAs, IsUncutAt, cut_script}
 use Rattle.jcard_tear.specs.declared.cuts.Baseline.{Baseline}
-use Rattle.jcard_tear.specs.declared.cuts.Command.{Command}
+use Rattle.jcard_sweeps.specs.declared.command.Command.{Command}
 use Rattle.jcard_tear.specs.declared.cuts.Shared.{Shared}
-use Rattle.jcard_tear.specs.Report.{IsTold}
+use Rattle.jcard_sweeps.specs.Report.{IsTold}
 use Rattle.jcard_tear.specs.declared.kept_card.AtCommand.{AtCommand}
 use Rattle.jcard_tear.specs.declared.last_cut.LastCut.{LastCut}
 use Rattle.jcard_tear.proofs.CutRecoveries as recoveries

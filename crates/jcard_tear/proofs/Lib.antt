@@ -1,7 +1,5 @@
-pub mod WholeRuns
 pub mod CutLists
 pub mod CutCommands
-pub mod Lines
 pub mod CutRecoveries
 pub mod Powers
 pub mod Fuses
@@ -9,7 +7,4 @@ pub mod CutFaults
 pub mod SameHeaps
 pub mod KeptCuts
 pub mod OneHeaps
-pub mod NamedParts
-pub mod PartJoins
-pub mod PowerUpFaults
 pub mod ImagesAtRest

@@ -23,7 +23,7 @@ use Rattle.jc_card.specs.ProductImages.{IsCardHeap}
 use Rattle.jc_card.specs.PowerUp.Outcome.{IsPoweredOver}
 use Rattle.jc_card.specs.PowerUp.Reset.{IsAtReset}
 use Rattle.jcard_tear.specs.KeptCard.{GivesAnswers, HoldOneHeap}
-use Rattle.jcard_tear.specs.Runs.{IsRecovered}
+use Rattle.jcard_sweeps.specs.Runs.{IsRecovered}
 use Rattle.jcard_tear.proofs.KeptCuts.{migrated_none}
 use Rattle.jcard_outcomes.proofs.Blocks.{agree_between}
 use Rattle.jcard_tear.proofs.SameHeaps.{agree_below}

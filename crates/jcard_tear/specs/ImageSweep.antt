@@ -3,17 +3,17 @@ use Rattle.std.specs.Prelude.{ℕ, ◌≡◌, List}
 use Rattle.jcard_files.specs.Effects.{FindsThen, ReadsThen, Tells, WithNoFile}
 use Rattle.jcard_files.specs.FileDeeds.{FileDeed}
 use Rattle.jcard_files.specs.declared.fault.Fault.{Fault}
-use Rattle.jcard_tear.specs.Output.{IsReportTold}
-use Rattle.jcard_tear.specs.ReportedFaults.{IsTearFault}
-use Rattle.jcard_tear.specs.Subject.{CarriesThen, IsProbeRead, IsProbeUnread}
-use Rattle.jcard_tear.specs.SweepAsked.{SweepAsked}
+use Rattle.jcard_sweeps.specs.Output.{IsReportTold}
+use Rattle.jcard_sweeps.specs.ReportedFaults.{IsTearFault}
+use Rattle.jcard_sweeps.specs.Subject.{CarriesThen, IsProbeRead, IsProbeUnread}
+use Rattle.jcard_sweeps.specs.SweepAsked.{SweepAsked}
 use Rattle.jcard_tear.specs.TargetCuts.{IsCut, IsUncut}
-use Rattle.jcard_tear.specs.Targets.{IsNoTarget, IsTarget}
-use Rattle.jcard_tear.specs.Texts.{text_of}
-use Rattle.jcard_tear.specs.declared.subject.Subject.{Subject}
-use Rattle.jcard_tear.specs.declared.sweep.TearFault.{TearFault}
+use Rattle.jcard_sweeps.specs.Targets.{IsNoTarget, IsTarget}
+use Rattle.jcard_sweeps.specs.Texts.{text_of}
+use Rattle.jcard_sweeps.specs.declared.subject.Subject.{Subject}
+use Rattle.jcard_sweeps.specs.declared.sweep_fault.TearFault.{TearFault}
 use Rattle.jcard_tear.specs.declared.target_cuts.Cutting.{Cutting}
-use Rattle.jcard_tear.specs.declared.targets.Target.{Target}
+use Rattle.jcard_sweeps.specs.declared.targets.Target.{Target}
 
 -- the probe was read with which this script is cut as is asked, if one is named
 abbrev pub IsCuttingRead : Subject → SweepAsked → Cutting → List FileDeed → Type 0

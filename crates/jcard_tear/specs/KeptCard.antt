@@ -11,9 +11,9 @@ use Rattle.jcard_outcomes.specs.declared.recoveries.Depth.TheVariants.{Zero}
 use Rattle.jcard_outcomes.specs.declared.recoveries.Recoveries.{Recoveries}
 use Rattle.jcard_outcomes.specs.declared.standing.Cut.{Cut}
 use Rattle.jcard_outcomes.specs.declared.standing.Left.{Left}
-use Rattle.jcard_tear.specs.Runs.{IsRecovered, Runs, store_of}
+use Rattle.jcard_sweeps.specs.Runs.{IsRecovered, Runs, store_of}
 use Rattle.jcard_tear.specs.Sweep.{IsToldAs, IsToldCut, IsUncutAt, cut_script}
-use Rattle.jcard_tear.specs.declared.cuts.Command.{Command}
+use Rattle.jcard_sweeps.specs.declared.command.Command.{Command}
 use Rattle.jcard_tear.specs.declared.cuts.Shared.{Shared}
 use Rattle.jcard_tear.specs.declared.kept_card.AtCommand.{AtCommand}
 use Rattle.jcard_tear.specs.declared.kept_card.KeptCut.{KeptCut}

@@ -1,11 +1,11 @@
 -- A part of the cuts of a command.
 use Rattle.std.specs.Prelude.{ℕ, ◌≡◌, List, Option}
 use Rattle.jcard_outcomes.specs.declared.part.Part.{Part}
-use Rattle.jcard_tear.specs.Names.{sweep_name}
-use Rattle.jcard_tear.specs.ScriptLines.{Line}
+use Rattle.jcard_sweeps.specs.Names.{sweep_name}
+use Rattle.jcard_sweeps.specs.ScriptLines.{Line}
 use Rattle.jcard_tear.specs.Sweep.{IsProbe, IsSweptBy}
-use Rattle.jcard_tear.specs.declared.cuts.Behind.{Behind}
-use Rattle.jcard_tear.specs.declared.cuts.Command.{Command}
+use Rattle.jcard_sweeps.specs.declared.command.Behind.{Behind}
+use Rattle.jcard_sweeps.specs.declared.command.Command.{Command}
 
 -- part i of n has the cuts after k writes for which k mod n = i - 1: after i - 1 writes and each n-th number after it, up to the first
 -- of these that does not cut the command; what was before the command, its answer and what it leaves are those of the whole sweep

@@ -7,7 +7,7 @@ use Rattle.jcard_outcomes.specs.Recoveries.{recoveries_of}
 use Rattle.jcard_outcomes.specs.declared.recoveries.Depth.{Depth}
 use Rattle.jcard_outcomes.specs.declared.recoveries.Recoveries.{Recoveries}
 use Rattle.jcard_outcomes.specs.declared.standing.Left.{Left}
-use Rattle.jcard_tear.specs.Runs.{IsLeft}
+use Rattle.jcard_sweeps.specs.Runs.{IsLeft}
 
 -- recoveries, one after the other from these words on, are cut after this many writes each, which are fewer than they would make
 unfoldable pub AreCutAfter : List ℕ → List ℕ → Type 0

@@ -1,10 +1,10 @@
 -- A command of a script that is cut after each number of its word writes.
-use Rattle.std.specs.Prelude.{ℕ, ◌≡◌, ◌+◌, ◌-◌, ◌*◌, ◌<◌, ◌≤◌, ◌≢◌, ◌⊎◌, true, false, List, [], ◌∷◌, ◌++◌, codes, decimal, drop, take, length, slice_index, Option, Some, None}
+use Rattle.std.specs.Prelude.{ℕ, ◌≡◌, ◌+◌, ◌*◌, true, false, List, [], ◌∷◌, ◌++◌, codes, decimal, length, Option, Some, None, Ok}
 use Rattle.hex.specs.Hex.{encode_upper}
 use Rattle.jc_words.specs.Store.{FuseStoreValue}
 use Rattle.jc_objects.specs.Pins.{AreTriesIn}
 use Rattle.jcard_outcomes.specs.Standing.{IsStanding, lost_of}
-use Rattle.jcard_outcomes.specs.declared.recoveries.Depth.TheVariants.{Zero}
+use Rattle.jcard_script.specs.Script.{EndsSelecting}
 use Rattle.jcard_outcomes.specs.declared.recoveries.Recoveries.{Recoveries}
 use Rattle.jcard_outcomes.specs.declared.standing.Cut.{Cut}
 use Rattle.jcard_outcomes.specs.declared.standing.Left.{Left}
@@ -13,18 +13,15 @@ use Rattle.jcard_outcomes.specs.declared.each.LineOutcome.TheVariants.{Down, Swe
 use Rattle.jcard_outcomes.specs.declared.each.LineSweep.{LineSweep}
 use Rattle.jcard_outcomes.specs.declared.report.Sweep.{Sweep}
 use Rattle.jcard_tear.specs.Recoveries.{AreRecoveries}
-use Rattle.jcard_tear.specs.Runs.{IsLeft, IsSelectedBy, Runs}
-use Rattle.jcard_tear.specs.ScriptLines.{Line, command_text}
-use Rattle.jcard_tear.specs.Report.{AreObjectsAsked, IsTold}
-use Rattle.jcard_tear.specs.Texts.{text_of}
+use Rattle.jcard_sweeps.specs.LastLine.{IsLastLine}
+use Rattle.jcard_sweeps.specs.Runs.{IsLeft, Runs, store_of}
+use Rattle.jcard_sweeps.specs.ScriptLines.{Line, command_text}
+use Rattle.jcard_sweeps.specs.Report.{AreObjectsAsked, IsTold}
+use Rattle.jcard_sweeps.specs.Texts.{text_of}
 use Rattle.jcard_tear.specs.declared.cuts.Baseline.{Baseline}
-use Rattle.jcard_tear.specs.declared.cuts.Behind.{Behind}
-use Rattle.jcard_tear.specs.declared.cuts.Command.{Command}
+use Rattle.jcard_sweeps.specs.declared.command.Behind.{Behind}
+use Rattle.jcard_sweeps.specs.declared.command.Command.{Command}
 use Rattle.jcard_tear.specs.declared.cuts.FollowUp.{FollowUp}
-
--- nothing but the answers of the probe, with at most this many instructions a command
-abbrev pub nothing_more : ℕ → Behind
-nothing_more n = record { depth = Zero; objects = false; instructions = n }
 
 -- the script up to the command, with the power cut after this many of its writes
 abbrev pub cut_script : Command → ℕ → List ℕ
@@ -53,11 +50,6 @@ IsToldCut words c b k cut = (left : Left) × IsCutAt words c k left cut.recoveri
 unfoldable pub AreCuts : List ℕ → Command → Baseline → ℕ → ℕ → List Cut → Type 0
 AreCuts words c b k n [] = Unit {0}
 AreCuts words c b k n (cut ∷ cuts) = IsToldCut words c b k cut × AreCuts words c b (k + n) n cuts
-
--- the last line of a text, without its line feed
-abbrev pub IsLastLine : List ℕ → List ℕ → Type 0
-IsLastLine text line = (start : ℕ) × (start ≤ length text - 1) × (line ≡ take (length text - 1 - start) (drop start text))
-    × ((i : ℕ) → start ≤ i → i < length text - 1 → slice_index text i ≢ 10) × ((start ≡ 0) ⊎ (slice_index text (start - 1) ≡ 10))
 
 -- the command was not cut: this is its answer, and this is left
 abbrev pub IsDone : List ℕ → Command → List ℕ → Left → Type 0
@@ -101,6 +93,11 @@ select_line (Some aid) = codes "00A40400" ++ encode_upper (length aid ∷ []) ++
 -- the lines of a probe that are given to follow each cut, if any are
 abbrev pub given_of : FollowUp → Option (List ℕ)
 given_of f = text_of f.probe
+
+-- the script was carried out to its end over these words, and then this applet is selected, by its AID, if one is
+abbrev pub IsSelectedBy : ℕ → List ℕ → List ℕ → Option (List ℕ) → Type 0
+IsSelectedBy budget words script selected = (text : List ℕ) × (after : FuseStoreValue)
+    × EndsSelecting budget (Ok tt) (store_of words) after true script text selected
 
 -- the lines of a probe: those that are given, or else the SELECT of the applet that is selected before the command
 abbrev pub IsProbe : ℕ → List ℕ → Option (List ℕ) → List ℕ → List ℕ → Type 0

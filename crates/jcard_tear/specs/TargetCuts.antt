@@ -6,17 +6,17 @@ use Rattle.jcard_outcomes.specs.CommandShares.{share_text}
 use Rattle.jcard_outcomes.specs.declared.each.LineSweep.{LineSweep}
 use Rattle.jcard_outcomes.specs.declared.part.Part.{Part}
 use Rattle.jcard_outcomes.specs.declared.report.Sweep.{Sweep}
-use Rattle.jcard_tear.specs.Shares.{share_in}
+use Rattle.jcard_sweeps.specs.Shares.{share_in}
 use Rattle.jcard_tear.specs.Faults.{IsLineUncut, IsOneUncut}
-use Rattle.jcard_tear.specs.Names.{commands_name}
+use Rattle.jcard_sweeps.specs.Names.{commands_name}
 use Rattle.jcard_tear.specs.Parts.{IsLinePart}
-use Rattle.jcard_tear.specs.ScriptLines.{line_of}
+use Rattle.jcard_sweeps.specs.ScriptLines.{line_of}
 use Rattle.jcard_tear.specs.Sweep.{AreSwept, IsLineSwept, given_of}
-use Rattle.jcard_tear.specs.declared.sweep.TearFault.{TearFault}
+use Rattle.jcard_sweeps.specs.declared.sweep_fault.TearFault.{TearFault}
 use Rattle.jcard_tear.specs.declared.target_cuts.Cutting.{Cutting}
 use Rattle.jcard_tear.specs.declared.target_cuts.ToldCuts.{ToldCuts}
-use Rattle.jcard_tear.specs.declared.targets.Target.{Target}
-use Rattle.jcard_tear.specs.declared.targets.Target.TheVariants.{Command, CommandPart, Each, EachPart}
+use Rattle.jcard_sweeps.specs.declared.targets.Target.{Target}
+use Rattle.jcard_sweeps.specs.declared.targets.Target.TheVariants.{Command, CommandPart, Each, EachPart}
 
 -- the report is this, and ends so
 abbrev pub AreToldAs : List ℕ → Bool → ToldCuts → Type 0

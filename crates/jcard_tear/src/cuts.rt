@@ -1,51 +1,30 @@
 //! Cutting the power within a command, after each number of its word writes.
 ghost use Rattle.std.specs.Prelude.{◌≡◌, ◌<◌, ◌+◌, ◌*◌, ◌++◌, ◌∷◌, ℕ, true, List, [], None, length, IfOk, IfSome, MatchOption, MatchResult};
-ghost use Rattle.jcard_tear.specs.declared.sweep.TearFault.TheVariants.{NoMemory};
+ghost use Rattle.jcard_sweeps.specs.declared.sweep_fault.TearFault.TheVariants.{NoMemory};
 ghost use Rattle.jcard_tear.specs.Faults.{IsUncutFor};
 ghost use Rattle.jcard_tear.specs.KeptCard.{IsKeptCut, IsKeptFor, IsKnown, IsLastCut, IsReportedAt, IsShort};
-ghost use Rattle.jcard_tear.specs.declared.cuts.Command.{Command as CommandText};
-ghost use Rattle.jcard_tear.specs.Sweep.{AreCuts, IsCutAt, IsToldAs, IsUncutAt, cut_script, nothing_more};
-ghost use Rattle.jcard_tear.specs.Report.{AreOfImage};
+ghost use Rattle.jcard_sweeps.specs.declared.command.Command.{Command as CommandText};
+ghost use Rattle.jcard_tear.specs.Sweep.{AreCuts, IsCutAt, IsToldAs, IsUncutAt, cut_script};
+ghost use Rattle.jcard_sweeps.specs.Report.{AreOfImage};
 
 use crate::kept_card::{AtCommand, KeptCut, kept_for};
 use crate::last_cut::{LastCut, reported_cut};
-use crate::progress::Progress;
 use crate::recoveries::recoveries;
-use crate::report::told;
-use crate::runs::run_copy;
-use crate::sweep::{TearFault, left_by_probe, probe_fault};
+use crate::sweep::{left_by_probe, probe_fault};
 use itoa::Buffer;
 use jc_objects::image_objects::ImageObjects;
 use jcard_outcomes::part::Share;
-use jcard_outcomes::recoveries::{Depth, Recoveries};
+use jcard_outcomes::recoveries::Recoveries;
 use jcard_outcomes::standing::{Cut, Left, lost_of, standing_of};
+use jcard_sweeps::command::{Behind, Command};
+use jcard_sweeps::progress::Progress;
+use jcard_sweeps::report::told;
+use jcard_sweeps::runs::run_copy;
+use jcard_sweeps::sweep_fault::TearFault;
 use std::alloc::{AllocError, Global};
 
 /// The most cuts of a command.
 const MOST: u16 = 65_535;
-
-/// What comes after each cut of a command: how many recoveries are cut, whether the cells that changed are reported, and with how many
-/// instructions a command may run.
-#[derive(Clone, Copy, Drop)]
-pub struct Behind {
-    pub depth: Depth,
-    pub objects: bool,
-    /// The most instructions of a command, those of the script and of the probe too.
-    pub instructions: u32,
-}
-
-impl Behind {
-    /// What comes after a cut where only the answers of the probe are asked for.
-    pub fn nothing_more(instructions: u32) -> Behind
-        ensures { result ≡ nothing_more instructions }
-    {
-        Behind {
-            depth: Depth::Zero,
-            objects: false,
-            instructions,
-        }
-    }
-}
 
 /// What follows each cut of a command in a line of a script.
 #[derive(Clone, Copy, Drop)]
@@ -53,16 +32,6 @@ pub struct FollowUp<'a> {
     /// The lines of a probe; where none are given, the SELECT of the applet that is selected before the command.
     pub probe: Option<&'a [u8]>,
     /// What else comes.
-    pub behind: Behind,
-}
-
-/// A command of a script: the text before its line, its line, what is asked after a reset, and what else comes after each of its
-/// cuts.
-#[derive(Clone, Copy, Drop)]
-pub struct Command<'a> {
-    pub before: &'a [u8],
-    pub line: &'a [u8],
-    pub probe: &'a [u8],
     pub behind: Behind,
 }
 

@@ -1,18 +1,20 @@
 //! The commands of a script, each cut after each number of its writes.
-ghost use Rattle.std.specs.Prelude.{◌≡◌, ◌<◌, ◌++◌, ◌∷◌, [], length, map, IfOk, MatchResult};
-ghost use Rattle.jcard_tear.specs.declared.sweep.TearFault.TheVariants.{NoMemory};
+ghost use Rattle.std.specs.Prelude.{◌≡◌, ◌<◌, ◌++◌, ◌∷◌, [], length, map, MatchResult};
+ghost use Rattle.jcard_sweeps.specs.declared.sweep_fault.TearFault.TheVariants.{NoMemory};
 ghost use Rattle.jcard_tear.specs.Faults.{IsLineUncut, IsOneUncut};
-ghost use Rattle.jcard_tear.specs.ScriptLines.{command_text, is_blank, line_of};
+ghost use Rattle.jcard_sweeps.specs.ScriptLines.{command_text, line_of};
 ghost use Rattle.jcard_tear.specs.Sweep.{AreSwept, IsLineOutcome, IsLineSwept, IsLineTold, given_of};
 
-use crate::cuts::{Command, FollowUp};
+use crate::cuts::FollowUp;
 use crate::probes::probe_for;
-use crate::progress::Progress;
-use crate::script_lines::ScriptLine;
-use crate::sweep::{TearFault, tear};
+use crate::sweep::tear;
 use jcard_outcomes::each::{LineOutcome, LineSweep};
 use jcard_outcomes::report::Sweep;
-use std::alloc::{AllocError, Global};
+use jcard_sweeps::command::Command;
+use jcard_sweeps::progress::Progress;
+use jcard_sweeps::script_lines::{ScriptLine, command_text};
+use jcard_sweeps::sweep_fault::TearFault;
+use std::alloc::Global;
 
 /// Cuts the command in a line after each number of its writes. After each cut comes what is to follow it.
 pub fn tear_line<P: Progress>(
@@ -106,26 +108,6 @@ fn line_outcome<P: Progress>(
         Err(TearFault::Down) => Ok(LineOutcome::Down),
         Err(fault) => Err(fault),
     }
-}
-
-/// The text of a command: its line without spaces, and without the bytes that end it.
-pub fn command_text(alloc: Global, line: &[u8]) -> Result<Vec<u8>, AllocError>
-    ensures { IfOk result (λ text. text.items ≡ command_text line.now) }
-{
-    let mut text = Vec::new(alloc);
-    for byte in line {
-        if !is_blank(*byte) {
-            text.push(*byte)?;
-        }
-    }
-    Ok(text)
-}
-
-// Whether a byte of a line is a space, or belongs to its end.
-fn is_blank(byte: u8) -> bool
-    ensures { result ≡ is_blank byte }
-{
-    byte == b' ' || byte == b'\n' || byte == b'\r'
 }
 
 fn push_sweep(sweeps: &mut Vec<LineSweep>, sweep: LineSweep) -> Result<(), TearFault>

@@ -2,35 +2,24 @@
 ghost use Rattle.std.specs.Prelude.{◌<◌, length};
 ghost use Rattle.jcard_files.specs.Effects.{Does};
 ghost use Rattle.jcard_tear.specs.ImageSweep.{IsTear, IsTorn};
-ghost use Rattle.jcard_tear.specs.SweepAsked.{sweep_asked_by};
+ghost use Rattle.jcard_sweeps.specs.SweepAsked.{sweep_asked_by};
 
-use crate::cuts::{Behind, FollowUp};
-use crate::output::write_report;
-use crate::progress::Progress;
-use crate::remarks::remark_on_probe;
-use crate::reported_faults::tear_fault;
-use crate::script_fault::Names;
-use crate::script_lines::commands;
-use crate::subject::{Subject, carry_through, image_words, lent, probe_of};
+use crate::cuts::FollowUp;
 use crate::target_cuts::{Cutting, cut};
-use crate::targets::target_of;
 use jcard_files::disk::Disk;
 use jcard_files::fault::Fault;
 use jcard_files::reading::script_of;
 use jcard_files::remarks::Remarks;
+use jcard_sweeps::asked::Asked;
+use jcard_sweeps::output::write_report;
+use jcard_sweeps::progress::Progress;
+use jcard_sweeps::remarks::remark_on_probe;
+use jcard_sweeps::reported_faults::tear_fault;
+use jcard_sweeps::script_fault::Names;
+use jcard_sweeps::script_lines::commands;
+use jcard_sweeps::subject::{Subject, carry_through, image_words, lent, probe_of};
+use jcard_sweeps::targets::target_of;
 use jcard_texts::streams::TextOut;
-
-/// What is torn of an image: the names of a script and perhaps of a probe, the command in the line of a number, the last
-/// command, or each, and what comes after each cut.
-#[derive(Clone, Copy, Drop)]
-pub struct Asked<'a> {
-    pub script: &'a str,
-    pub probe: Option<&'a str>,
-    pub line: Option<&'a str>,
-    pub each: bool,
-    pub behind: Behind,
-    pub part: Option<&'a str>,
-}
 
 /// `jcard tear`: cuts a command of the script, or each, after each number of its writes, each time on a card of a copy of the image's
 /// words, and says what is left. The whole script is carried out before, and refused as `jcard run` refuses it. The image is read, and

@@ -2,17 +2,17 @@
 ghost use Rattle.std.specs.Prelude.{◌≡◌, ◌<◌, ◌++◌, ℕ, List, codes, decimal, length, vec_len, IfOk, IfSome};
 ghost use Rattle.jc_commit.specs.Image.{plain_of, recovered_of};
 ghost use Rattle.jcard_tear.specs.KeptCard.{IsKeptCut, IsKeptFor, IsShort};
-ghost use Rattle.jcard_tear.specs.Runs.{IsRecovered};
-ghost use Rattle.jcard_tear.specs.declared.cuts.Command.{Command as CommandText};
+ghost use Rattle.jcard_sweeps.specs.Runs.{IsRecovered};
+ghost use Rattle.jcard_sweeps.specs.declared.command.Command.{Command as CommandText};
 
-use crate::cuts::Command;
 use crate::recoveries::journal_of;
-use crate::runs::{recovered, words_of};
 use arrayvec::ArrayVec;
 use itoa::Buffer;
 use jc_words::{FuseStore, MemStore, WordStore};
 use jcard_outcomes::recoveries::Depth;
 use jcard_script::begun::{BegunScript, begin_script, command_of_line};
+use jcard_sweeps::command::Command;
+use jcard_sweeps::runs::{recovered, words_of};
 use std::alloc::{AllocError, Global};
 
 /// How many bytes are taken once; copies of a card of the largest image take less.

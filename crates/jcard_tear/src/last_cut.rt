@@ -1,21 +1,23 @@
 //! What is reported of a cut, and again of the cuts after it that leave the same heap.
 ghost use Rattle.std.specs.Prelude.{◌≡◌, ◌<◌, true, length, vec_len, IsTrue, IfOk, IfSome, MatchResult};
 ghost use Rattle.jc_commit.specs.Image.{plain_of};
-ghost use Rattle.jcard_tear.specs.Faults.{IsProbeFault};
+ghost use Rattle.jcard_sweeps.specs.Faults.{IsProbeFault};
 ghost use Rattle.jcard_tear.specs.KeptCard.{GivesAnswers, HasAnswered, HoldOneHeap, IsKnown, IsLastCut, IsReportedAlike, none_cut};
 ghost use Rattle.jcard_tear.specs.Sweep.{IsToldAs};
-ghost use Rattle.jcard_tear.specs.Runs.{IsRecovered};
-ghost use Rattle.jcard_tear.specs.Report.{AreOfImage};
+ghost use Rattle.jcard_sweeps.specs.Runs.{IsRecovered};
+ghost use Rattle.jcard_sweeps.specs.Report.{AreOfImage};
 
 use crate::alike::{are_alike, hold_one_heap};
+use crate::answers::{answers_over, image_answers, known_of};
 use crate::cuts::{Baseline, Shared, told_cut};
 use crate::moved_image::{moved, stands_for};
-use crate::runs::{answers_over, image_answers, known_of, run_copy};
-use crate::sweep::{TearFault, probe_fault};
+use crate::sweep::probe_fault;
 use jc_card::powered_image::PoweredImage;
 use jc_packages::known::KnownPackages;
 use jcard_outcomes::recoveries::Recoveries;
 use jcard_outcomes::standing::{Cut, Left};
+use jcard_sweeps::runs::run_copy;
+use jcard_sweeps::sweep_fault::TearFault;
 use std::alloc::{AllocError, Global};
 
 /// What is left after a recovery, and what is reported of a cut that left it.

@@ -1,7 +1,7 @@
 //! The image that a recovery left: the one before it, moved to its words, or else read anew.
 ghost use Rattle.std.specs.Prelude.{◌<◌, ◌≤◌, length, IsTrue, IfSome};
 ghost use Rattle.jcard_tear.specs.KeptCard.{HoldOneHeap};
-ghost use Rattle.jcard_tear.specs.Runs.{IsRecovered};
+ghost use Rattle.jcard_sweeps.specs.Runs.{IsRecovered};
 
 use crate::alike::hold_one_heap;
 use crate::recoveries::{are_equal, journal_of};

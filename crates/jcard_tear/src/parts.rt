@@ -2,16 +2,18 @@
 ghost use Rattle.std.specs.Prelude.{◌<◌, ◌+◌, ◌*◌, length, IfOk, MatchResult};
 ghost use Rattle.jcard_tear.specs.Faults.{IsLineUncut, IsUncutFor};
 ghost use Rattle.jcard_tear.specs.Parts.{IsLinePart, IsPartSwept};
-ghost use Rattle.jcard_tear.specs.ScriptLines.{line_of};
+ghost use Rattle.jcard_sweeps.specs.ScriptLines.{line_of};
 ghost use Rattle.jcard_tear.specs.Sweep.{given_of};
 
-use crate::cuts::{Command, FollowUp};
-use crate::names::sweep_name;
+use crate::cuts::FollowUp;
 use crate::probes::probe_for;
-use crate::progress::Progress;
-use crate::script_lines::ScriptLine;
-use crate::sweep::{TearFault, tear_share};
+use crate::sweep::tear_share;
 use jcard_outcomes::part::{Part, Share};
+use jcard_sweeps::command::Command;
+use jcard_sweeps::names::sweep_name;
+use jcard_sweeps::progress::Progress;
+use jcard_sweeps::script_lines::ScriptLine;
+use jcard_sweeps::sweep_fault::TearFault;
 use std::alloc::Global;
 
 /// Cuts the command in a line after the numbers of writes in a part: `first`, and each `step`-th number after it. After each cut comes what is to

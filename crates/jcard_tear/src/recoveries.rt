@@ -5,11 +5,10 @@ ghost use Rattle.jc_words.specs.Layout.{first_version, least_size, most_capacity
 ghost use Rattle.jc_commit.specs.Image.{IsGoodLog, address_at, count_of};
 ghost use Rattle.jc_commit.specs.Replay.{replay_writes, torn_replay};
 ghost use Rattle.jcard_outcomes.specs.Recoveries.{recoveries_of};
-ghost use Rattle.jcard_tear.specs.Faults.{IsLeftFault, IsLogFault};
+ghost use Rattle.jcard_sweeps.specs.Faults.{IsLeftFault, IsLogFault};
 ghost use Rattle.jcard_tear.specs.Recoveries.{AreRecoveries, AreTheSame, ComesToAnother, ComesToTheSame, IsSameLeft, NamesEachOnce};
-ghost use Rattle.jcard_tear.specs.Runs.{IsLeft};
+ghost use Rattle.jcard_sweeps.specs.Runs.{IsLeft};
 
-use crate::runs::{BAD_LOG, RunFault, left, words_of};
 use jc_commit::{Journal, OpenRefusal};
 use jc_words::layout::{
     CAPACITY_WORD, COUNT, FIRST_VERSION, JOURNAL_WORD, LEAST_SIZE, VERSION_WORD,
@@ -17,6 +16,7 @@ use jc_words::layout::{
 use jc_words::{FuseStore, Log, MemStore};
 use jcard_outcomes::recoveries::{Depth, Recoveries};
 use jcard_outcomes::standing::Left;
+use jcard_sweeps::runs::{BAD_LOG, RunFault, left, words_of};
 use std::alloc::Global;
 
 /// Cuts recoveries of these words, as many as this one after the other, and compares what the next one comes to with what

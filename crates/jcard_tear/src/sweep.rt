@@ -1,44 +1,27 @@
 //! A command that is cut after each number of its writes, beside what was before it and what it leaves.
 ghost use Rattle.std.specs.Prelude.{◌≡◌, ◌<◌, ◌+◌, ◌*◌, ◌++◌, ℕ, length, vec_len, IfOk, IfSome, IsTrue, MatchResult};
-ghost use Rattle.jcard_tear.specs.declared.sweep.TearFault.TheVariants.{NoMemory};
 ghost use Rattle.jcard_tear.specs.KeptCard.{HasAnswered, IsKnown};
-ghost use Rattle.jcard_tear.specs.Sweep.{IsBegun, IsDone, IsLastLine, IsSwept, IsSweptBy};
-ghost use Rattle.jcard_tear.specs.Runs.{IsLeft, IsRecovered};
-ghost use Rattle.jcard_tear.specs.Faults.{IsImageFault, IsProbeFault, IsUncutFor, told_probe_fault, told_run_fault};
+ghost use Rattle.jcard_tear.specs.Sweep.{IsBegun, IsDone, IsSwept, IsSweptBy};
+ghost use Rattle.jcard_sweeps.specs.Runs.{IsLeft, IsRecovered};
+ghost use Rattle.jcard_sweeps.specs.Faults.{IsImageFault, IsProbeFault};
+ghost use Rattle.jcard_tear.specs.Faults.{IsUncutFor, told_probe_fault};
 ghost use Rattle.jc_objects.specs.Pins.{AreTriesIn};
 
-use crate::cuts::{Baseline, Command, cut_all};
-use crate::progress::Progress;
+use crate::answers::answers_over;
+use crate::cuts::{Baseline, cut_all};
 use crate::recoveries::are_equal;
-use crate::report::{left_told, objects_asked};
-use crate::runs::{RunFault, answers_over, left, recovered, run_copy, run_told};
-use jc_card::power_up::PowerFault;
 use jc_objects::pins::try_words;
 use jc_packages::fault::ReadFault;
 use jcard_outcomes::part::Share;
 use jcard_outcomes::report::Sweep;
 use jcard_outcomes::standing::Left;
-use jcard_script::script::ScriptFault;
+use jcard_sweeps::command::Command;
+use jcard_sweeps::last_line::last_line;
+use jcard_sweeps::progress::Progress;
+use jcard_sweeps::report::{left_told, objects_asked};
+use jcard_sweeps::runs::{RunFault, left, recovered, run_copy, run_told};
+use jcard_sweeps::sweep_fault::{DAMAGED, TearFault};
 use std::alloc::{AllocError, Global};
-
-/// What a command leaves is no whole image.
-pub(crate) const DAMAGED: TearFault = TearFault::Probe(ScriptFault::PowerFault(
-    PowerFault::BadPackage,
-));
-
-/// Why a command was not cut after each number of its writes.
-#[derive(Clone, Copy, Drop)]
-pub enum TearFault {
-    NoMemory,
-    /// The script, up to the command, was not carried out to its end.
-    Script(ScriptFault),
-    /// Nor was a recovery after it, or the probe.
-    Probe(ScriptFault),
-    /// The script cut the power itself, and the card is down at the command.
-    Down,
-    /// The command makes more writes than are counted.
-    TooManyCuts,
-}
 
 /// Carries out the script up to the command on a card of a copy of these words, and then cuts the command after each number
 /// of its writes, each time on a card of a copy of its own. After each cut comes a reset, and then the probe; and as many
@@ -225,36 +208,5 @@ fn tries_in(alloc: Global, left: &Left) -> Result<Vec<u16>, TearFault>
         Ok(tries) => Ok(tries),
         Err(ReadFault::NoMemory) => Err(TearFault::NoMemory),
         Err(ReadFault::Damaged) => Err(DAMAGED),
-    }
-}
-
-/// The last line of a text, without its line feed.
-pub fn last_line(text: &[u8]) -> &[u8]
-    ensures { IsLastLine text.now result.now }
-{
-    let end = text.len().saturating_sub(1);
-    let mut start = end;
-    while start > 0 && text[start - 1] != b'\n' {
-        start -= 1;
-    }
-    &text[start..end]
-}
-
-impl From<AllocError> for TearFault {
-    ghost from_gives = { λ _ fault. fault ≡ NoMemory };
-
-    fn from(_: AllocError) -> Self {
-        TearFault::NoMemory
-    }
-}
-
-impl From<RunFault> for TearFault {
-    ghost from_gives = { λ cause fault. fault ≡ told_run_fault cause };
-
-    fn from(cause: RunFault) -> Self {
-        match cause {
-            RunFault::NoMemory => TearFault::NoMemory,
-            RunFault::Script(fault) => TearFault::Script(fault),
-        }
     }
 }

@@ -1,23 +1,23 @@
 //! Cutting commands of a script over the words of an image, and what is reported of that.
 ghost use Rattle.std.specs.Prelude.{◌<◌, length, MatchResult};
 ghost use Rattle.jcard_tear.specs.TargetCuts.{IsCut, IsUncut};
-ghost use Rattle.jcard_tear.specs.Targets.{IsAmong};
+ghost use Rattle.jcard_sweeps.specs.Targets.{IsAmong};
 
 use crate::cuts::FollowUp;
 use crate::each::{tear_each, tear_line};
-use crate::names::commands_name;
 use crate::parts::tear_line_part;
-use crate::progress::Progress;
-use crate::script_lines::ScriptLine;
-use crate::shares::share_in;
-use crate::subject::Subject;
-use crate::sweep::TearFault;
-use crate::targets::Target;
 use jcard_outcomes::command_shares::share_lines;
 use jcard_outcomes::each::{are_all_or_nothing, verdicts};
 use jcard_outcomes::part::{Share, part_lines};
 use jcard_outcomes::report::report;
 use jcard_outcomes::verdict::is_all_or_nothing;
+use jcard_sweeps::names::commands_name;
+use jcard_sweeps::progress::Progress;
+use jcard_sweeps::script_lines::ScriptLine;
+use jcard_sweeps::shares::share_in;
+use jcard_sweeps::subject::Subject;
+use jcard_sweeps::sweep_fault::TearFault;
+use jcard_sweeps::targets::Target;
 use std::alloc::Global;
 
 /// How commands of a script are cut.

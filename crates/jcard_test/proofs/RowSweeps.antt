@@ -7,8 +7,9 @@ use Rattle.jcard_attack.specs.declared.outcomes.AttackSweep.{AttackSweep}
 use Rattle.jcard_attack.specs.declared.outcomes.Outcome.TheVariants.{Accepted}
 use Rattle.jcard_outcomes.specs.Report.{broken_by_calls, broken_told, first_broken}
 use Rattle.jcard_outcomes.specs.declared.report.Sweep.{Sweep}
-use Rattle.jcard_tear.specs.ScriptLines.{Line}
-use Rattle.jcard_tear.specs.Sweep.{IsLineSwept, nothing_more}
+use Rattle.jcard_sweeps.specs.ScriptLines.{Line}
+use Rattle.jcard_sweeps.specs.Command.{nothing_more}
+use Rattle.jcard_tear.specs.Sweep.{IsLineSwept}
 use Rattle.jcard_test.specs.RowSweep.{IsStruckLine, IsToldOfFaults, IsToldOfLine, IsToldOfSweptLine}
 
 -- what is reported of the cuts of a line

@@ -3,8 +3,9 @@ use Rattle.std.specs.Prelude.{ℕ, ◌≡◌, ◌⊎◌, ◌++◌, true, false, 
 use Rattle.jcard_outcomes.specs.Models.{all_models}
 use Rattle.jcard_outcomes.specs.Report.{broken_by_calls, broken_told, first_broken}
 use Rattle.jcard_outcomes.specs.declared.report.Sweep.{Sweep}
-use Rattle.jcard_tear.specs.ScriptLines.{Line}
-use Rattle.jcard_tear.specs.Sweep.{IsLineSwept, nothing_more}
+use Rattle.jcard_sweeps.specs.ScriptLines.{Line}
+use Rattle.jcard_sweeps.specs.Command.{nothing_more}
+use Rattle.jcard_tear.specs.Sweep.{IsLineSwept}
 use Rattle.jcard_attack.specs.Each.{IsAttackedIn}
 use Rattle.jcard_attack.specs.Report.{accepted_text, any_accepted, first_of}
 use Rattle.jcard_attack.specs.Sweep.{IsSwept}

@@ -1,6 +1,6 @@
 //! What is reported of a row that is swept: its power is cut after each of its writes, or it is attacked at each of its instructions.
 ghost use Rattle.std.specs.Prelude.{◌≡◌, ◌<◌, ◌++◌, codes, length, IfOk, option_map};
-ghost use Rattle.jcard_tear.specs.ScriptLines.{line_of};
+ghost use Rattle.jcard_sweeps.specs.ScriptLines.{line_of};
 ghost use Rattle.jcard_test.specs.Cards.{probe_of};
 ghost use Rattle.jcard_test.specs.RowSweep.{IsToldOfFaults, IsToldOfLine, IsToldOfSweep, IsToldOfSweptLine, IsUsual};
 
@@ -12,11 +12,12 @@ use jcard_attack::report::accepted;
 use jcard_attack::sweep::{Sought, attack};
 use jcard_outcomes::models::Models;
 use jcard_outcomes::verdict::broken;
-use jcard_tear::cuts::{Behind, FollowUp};
+use jcard_sweeps::command::Behind;
+use jcard_tear::cuts::FollowUp;
 use jcard_tear::each::tear_line;
-use jcard_tear::progress::Nobody;
-use jcard_tear::script_lines::ScriptLine;
-use jcard_tear::sweep::TearFault;
+use jcard_sweeps::progress::Nobody;
+use jcard_sweeps::script_lines::ScriptLine;
+use jcard_sweeps::sweep_fault::TearFault;
 use std::alloc::{AllocError, Global};
 
 /// What is reported of the sweep of the row after these, on cards of copies of this store: nothing where it is well.

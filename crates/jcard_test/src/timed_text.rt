@@ -2,7 +2,7 @@
 ghost use Rattle.std.specs.Prelude.{◌≡◌, Some, []};
 
 use crate::timer::Timer;
-use jcard_tear::kept_text::KeptText;
+use jcard_sweeps::kept_text::KeptText;
 use jcard_texts::streams::{TextOut, WriteFailed};
 use std::alloc::Global;
 

@@ -23,8 +23,8 @@ use Rattle.jc_card.specs.Session.Starting.{Starts}
 use Rattle.jc_card.proofs.SessionRuns.{run_then}
 use Rattle.jcard_script.specs.Script.{form_of}
 use Rattle.jcard_outcomes.specs.declared.standing.Left.{Left}
-use Rattle.jcard_tear.specs.declared.cuts.Command.{Command as CutCommand}
-use Rattle.jcard_tear.specs.Runs.{IsLeft, Runs, store_of}
+use Rattle.jcard_sweeps.specs.declared.command.Command.{Command as CutCommand}
+use Rattle.jcard_sweeps.specs.Runs.{IsLeft, Runs, store_of}
 use Rattle.jcard_tear.specs.Sweep.{cut_script}
 use Rattle.law_theorems.specs.Outcomes.{ComesTo}
 use Rattle.law_theorems.specs.CardLaws.{IsOwnStore}

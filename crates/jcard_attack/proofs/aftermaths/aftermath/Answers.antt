@@ -1,8 +1,8 @@
 use Rattle.std.proofs.Common.{◌≡◌, ◌∙◌, ℕ, List, length, ap, subst, sym}
 use Rattle.jc_commit.specs.Image.{recovered_of}
 use Rattle.jc_commit.specs.Migration.{migrated}
-use Rattle.jcard_tear.specs.Runs.{Runs}
-use Rattle.jcard_tear.specs.Sweep.{IsLastLine}
+use Rattle.jcard_sweeps.specs.Runs.{Runs}
+use Rattle.jcard_sweeps.specs.LastLine.{IsLastLine}
 use Rattle.jcard_attack.specs.Aftermaths.{IsProbed, attacked_script}
 use Rattle.jcard_attack.proofs.aftermaths.aftermath.Goals as goal
 

@@ -1,7 +1,7 @@
 use Rattle.std.proofs.Common.{◌≡◌, ◌∙◌, ℕ, List, length, ap, subst}
 use Rattle.jc_commit.specs.Image.{recovered_of}
 use Rattle.jc_commit.specs.Migration.{migrated}
-use Rattle.jcard_tear.specs.Runs.{Runs}
+use Rattle.jcard_sweeps.specs.Runs.{Runs}
 use Rattle.jcard_attack.specs.Aftermaths.{IsProbed}
 use Rattle.jcard_attack.proofs.aftermaths.begun.Goals as goal
 

@@ -1,7 +1,7 @@
 use Rattle.std.proofs.Common.{rules, ◌≡◌, ◌∙◌, ◌++◌, ◌+◌, ◌≤◌, List, ℕ, codes, min, drop, length, ap, arith, subst, sym}
 use Rattle.std.proofs.lemmas.List.{drop_min}
-use Rattle.jcard_tear.specs.Runs.{IsRunFault, Runs}
-use Rattle.jcard_tear.specs.declared.runs.RunFault.TheVariants.{Script}
+use Rattle.jcard_sweeps.specs.Runs.{IsRunFault, Runs}
+use Rattle.jcard_sweeps.specs.declared.runs.RunFault.TheVariants.{Script}
 use Rattle.jcard_attack.specs.Aftermaths.{in_probe, lines_counted}
 use Rattle.jcard_attack.proofs.AttackFaults.{probe_unfinished}
 use Rattle.jcard_attack.proofs.aftermaths.probed.Goals as goal

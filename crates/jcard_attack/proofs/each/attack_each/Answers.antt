@@ -1,9 +1,9 @@
 use Rattle.std.proofs.Common.{◌∙◌, [], ap, sym, subst, inl, inr, get_or}
 use Rattle.std.proofs.lemmas.Option.{slice_get-get_or, slice_get-map}
 use Rattle.std.specs.Prelude.{option_map}
-use Rattle.jcard_tear.specs.ScriptLines.{line_of}
-use Rattle.jcard_tear.specs.declared.script_lines.ScriptLine.{ScriptLine}
-use Rattle.jcard_tear.proofs.CutFaults.{passed_on}
+use Rattle.jcard_sweeps.specs.ScriptLines.{line_of}
+use Rattle.jcard_sweeps.specs.declared.script_lines.ScriptLine.{ScriptLine}
+use Rattle.jcard_sweeps.proofs.RunFaults.{passed_on}
 use Rattle.jcard_attack.specs.Each.{IsLineUnswept}
 use Rattle.jcard_attack.proofs.AttackedCommands.{each_next, each_none}
 use Rattle.jcard_attack.proofs.each.attack_each.Goals as goal

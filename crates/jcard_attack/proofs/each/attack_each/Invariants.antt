@@ -1,5 +1,5 @@
 use Rattle.std.proofs.Common.{take, map}
-use Rattle.jcard_tear.specs.ScriptLines.{line_of}
+use Rattle.jcard_sweeps.specs.ScriptLines.{line_of}
 use Rattle.jcard_attack.specs.Each.{AreStruck}
 use Rattle.jcard_attack.proofs.each.attack_each.Given as goal
 

@@ -1,12 +1,12 @@
 use Rattle.std.proofs.Common.{[], ◌++◌, refl, inl, inr, subst}
 use Rattle.std.proofs.lemmas.Result.{err_from_is_err_and}
 use Rattle.jcard_texts.proofs.Known.{appends_same}
-use Rattle.jcard_tear.specs.SweepAsked.{sweep_asked_by}
-use Rattle.jcard_tear.specs.Targets.{IsNoTarget, IsTarget}
+use Rattle.jcard_sweeps.specs.SweepAsked.{sweep_asked_by}
+use Rattle.jcard_sweeps.specs.Targets.{IsNoTarget, IsTarget}
 use Rattle.jcard_attack.specs.Output.{IsAttackTold}
 use Rattle.jcard_attack.specs.declared.target_attacks.Attacking.{Attacking}
 use Rattle.jcard_attack.proofs.AskedLines.{asked_after}
-use Rattle.jcard_tear.proofs.NamedParts.{among}
+use Rattle.jcard_sweeps.proofs.NamedParts.{among}
 use Rattle.jcard_files.proofs.Effects.{unfailed}
 use Rattle.jcard_attack.proofs.image_sweep.attack_subject.Goals as goal
 

@@ -1,7 +1,7 @@
 use Rattle.std.proofs.Common.{◌≡◌, ◌≢◌, ◌≤◌, List, ℕ, ap, arith, length, refl, rules, subst, sym}
 use Rattle.std.specs.Borrow.{Bor}
 use Rattle.std.proofs.lemmas.List.{length-map}
-use Rattle.jcard_tear.proofs.CutFaults.{passed_on}
+use Rattle.jcard_sweeps.proofs.RunFaults.{passed_on}
 use Rattle.jcard_attack.specs.PartLines.{AreNoLines, ends_read}
 use Rattle.jcard_attack.proofs.PartReads.{reads_begun, reads_broken, reads_next, reads_stop}
 use Rattle.jcard_attack.proofs.join.read.Goals as goal

@@ -1,6 +1,6 @@
 use Rattle.std.proofs.Common.{◌≢◌, List, ℕ, [], ◌∷◌, length, rules, refl}
 use Rattle.jcard_attack.specs.Judgement.{IsLastAnswer}
-use Rattle.jcard_tear.specs.Sweep.{IsLastLine}
+use Rattle.jcard_sweeps.specs.LastLine.{IsLastLine}
 use Rattle.jcard_attack.proofs.judgement.last_answer.Goals as goal
 
 last_of : (answer answers last : List ℕ) → length answers ≢ 0 → IsLastLine answers last → IsLastAnswer answer answers last

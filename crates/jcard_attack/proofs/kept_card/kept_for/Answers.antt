@@ -1,8 +1,8 @@
 use Rattle.std.proofs.Common.{◌≡◌, ◌∙◌, ap, subst}
 use Rattle.jc_words.specs.Store.{FuseStoreValue}
 use Rattle.jcard_script.specs.Begun.{HasBegun}
-use Rattle.jcard_tear.specs.Runs.{store_of}
-use Rattle.jcard_tear.proofs.WholeRuns.{under_fuse}
+use Rattle.jcard_sweeps.specs.Runs.{store_of}
+use Rattle.jcard_sweeps.proofs.WholeRuns.{under_fuse}
 use Rattle.jcard_attack.proofs.kept_card.kept_for.Goals as goal
 
 pub returns : goal.returns

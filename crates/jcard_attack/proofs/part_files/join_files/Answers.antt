@@ -4,8 +4,8 @@ use Rattle.std.proofs.lemmas.List.{length-map}
 use Rattle.std.proofs.lemmas.Result.{err_from_is_err_and}
 use Rattle.jcard_texts.proofs.Known.{appends_same}
 use Rattle.jcard_attack.specs.PartFiles.{IsJoinedTo}
-use Rattle.jcard_tear.specs.Texts.{texts_of}
-use Rattle.jcard_tear.proofs.PartJoins.{read_lengths}
+use Rattle.jcard_sweeps.specs.Texts.{texts_of}
+use Rattle.jcard_sweeps.proofs.PartJoins.{read_lengths}
 use Rattle.jcard_attack.proofs.FileJoins.{unread_joining}
 use Rattle.jcard_files.proofs.Effects.{unfailed}
 use Rattle.jcard_attack.proofs.part_files.join_files.Goals as goal

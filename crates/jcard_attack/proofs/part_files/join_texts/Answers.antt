@@ -2,7 +2,7 @@ use Rattle.std.proofs.Common.{[], ℕ, List, arith, map}
 use Rattle.std.specs.Borrow.{Bor}
 use Rattle.std.proofs.lemmas.List.{length-map}
 use Rattle.jcard_texts.proofs.Known.{appends_same}
-use Rattle.jcard_tear.specs.Texts.{texts_of}
+use Rattle.jcard_sweeps.specs.Texts.{texts_of}
 use Rattle.jcard_attack.proofs.FileJoins.{heads_joined, others_told}
 use Rattle.jcard_files.proofs.Effects.{unfailed}
 use Rattle.jcard_attack.proofs.part_files.join_texts.Goals as goal

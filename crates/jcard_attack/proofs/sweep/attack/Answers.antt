@@ -2,7 +2,7 @@ use Rattle.std.proofs.Common.{◌∙◌, List, ap, inl, inr, refl, rules, subst,
 use Rattle.std.specs.Prelude.{codes}
 use Rattle.std.proofs.lemmas.Slice.Eq.{bytes_eq-Decides}
 use Rattle.jc_card.specs.declared.planned_fault.PlannedFault.{PlannedFault}
-use Rattle.jcard_tear.proofs.CutFaults.{passed_on}
+use Rattle.jcard_sweeps.proofs.RunFaults.{passed_on}
 use Rattle.jcard_attack.specs.Aftermaths.{IsUnfinished}
 use Rattle.jcard_attack.specs.Models.{faults_tried, kinds_tried}
 use Rattle.jcard_attack.specs.Objects.{IsObjectsFault}

@@ -2,7 +2,7 @@ use Rattle.std.proofs.Common.{◌≡◌, ◌∙◌, subst, sym}
 use Rattle.std.specs.Prelude.{None}
 use Rattle.jc_interp.specs.declared.attacks.FaultModel.TheVariants.{Skip}
 use Rattle.jc_card.specs.declared.planned_fault.PlannedFault.{PlannedFault}
-use Rattle.jcard_tear.proofs.CutFaults.{passed_on}
+use Rattle.jcard_sweeps.proofs.RunFaults.{passed_on}
 use Rattle.jcard_attack.specs.Aftermaths.{IsUnfinished}
 use Rattle.jcard_attack.proofs.StruckLists.{struck_next, struck_none}
 use Rattle.jcard_attack.proofs.AttackFaults.{memory_unfinished}

@@ -3,9 +3,9 @@ use Rattle.std.specs.Prelude.{not}
 use Rattle.jcard_attack.specs.Report.{any_accepted}
 use Rattle.jcard_outcomes.specs.CommandShares.{share_text}
 use Rattle.jcard_outcomes.specs.Part.{head_text}
-use Rattle.jcard_tear.specs.ScriptLines.{line_of}
+use Rattle.jcard_sweeps.specs.ScriptLines.{line_of}
 use Rattle.jcard_attack.specs.Names.{faults_name}
-use Rattle.jcard_tear.proofs.CutFaults.{cause_passed_on}
+use Rattle.jcard_sweeps.proofs.RunFaults.{cause_passed_on}
 use Rattle.jcard_attack.proofs.target_attacks.told_part.Goals as goal
 
 pub returns-in_err-name : goal.returns-in_err-name

@@ -1,8 +1,8 @@
 use Rattle.std.proofs.Common.{rules, ◌≡◌, ◌∙◌, ap, sym, subst, Err}
 use Rattle.jc_words.specs.Store.{FuseStoreValue}
 use Rattle.jcard_script.specs.Script.{EndsWithin}
-use Rattle.jcard_tear.specs.Runs.{store_of}
-use Rattle.jcard_tear.proofs.WholeRuns.{under_fuse}
+use Rattle.jcard_sweeps.specs.Runs.{store_of}
+use Rattle.jcard_sweeps.proofs.WholeRuns.{under_fuse}
 use Rattle.jcard_attack.proofs.trace.trace_of.Goals as goal
 
 pub returns : goal.returns

@@ -1,6 +1,6 @@
 use Rattle.std.proofs.Common.{ℕ, ap}
 use Rattle.jcard_arguments.specs.CommandLine.{text_of}
-use Rattle.jcard_tear.specs.SweepAsked.{SweepAsked}
+use Rattle.jcard_sweeps.specs.SweepAsked.{SweepAsked}
 use Rattle.jcard_commands.proofs.listing.asked_by.Goals as goal
 
 pub returns : goal.returns

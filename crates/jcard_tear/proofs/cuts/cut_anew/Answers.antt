@@ -2,7 +2,8 @@ use Rattle.std.proofs.Common.{sym, subst}
 use Rattle.jcard_outcomes.specs.declared.recoveries.Recoveries.{Recoveries}
 use Rattle.jcard_tear.specs.Faults.{IsUncutFor}
 use Rattle.jcard_tear.specs.Sweep.{IsCutAt}
-use Rattle.jcard_tear.proofs.CutFaults.{memory_uncut, passed_on}
+use Rattle.jcard_sweeps.proofs.RunFaults.{passed_on}
+use Rattle.jcard_tear.proofs.CutFaults.{memory_uncut}
 use Rattle.jcard_tear.proofs.cuts.cut_anew.Goals as goal
 
 pub returns : goal.returns

@@ -1,9 +1,11 @@
 use Rattle.std.proofs.Common.{◌∙◌, sym, refl, inr, subst}
-use Rattle.jcard_tear.specs.Faults.{IsCarriedOut, IsProbeFault}
+use Rattle.jcard_sweeps.specs.Faults.{IsProbeFault}
+use Rattle.jcard_tear.specs.Faults.{IsCarriedOut}
 use Rattle.jcard_tear.specs.Recoveries.{AreRecoveries}
-use Rattle.jcard_tear.specs.Runs.{IsLeft, IsRunFault, Runs}
+use Rattle.jcard_sweeps.specs.Runs.{IsLeft, IsRunFault, Runs}
 use Rattle.jcard_tear.specs.Sweep.{cut_script}
-use Rattle.jcard_tear.proofs.CutFaults.{left_probed, memory_uncut, passed_on, probe_uncut, run_uncut}
+use Rattle.jcard_sweeps.proofs.RunFaults.{passed_on}
+use Rattle.jcard_tear.proofs.CutFaults.{left_probed, memory_uncut, probe_uncut, run_uncut}
 use Rattle.jcard_tear.proofs.cuts.cut_at.Goals as goal
 
 pub recoveries-requires-clause-left : goal.recoveries-requires-clause-left

@@ -3,7 +3,8 @@ use Rattle.jcard_outcomes.specs.declared.standing.Cut.{Cut}
 use Rattle.jcard_tear.specs.Faults.{IsUncutFor}
 use Rattle.jcard_tear.specs.Sweep.{IsToldCut, IsUncutAt}
 use Rattle.jcard_tear.proofs.CutLists.{cuts_more, cuts_none, number_more}
-use Rattle.jcard_tear.proofs.CutFaults.{cuts_past, memory_uncut, passed_on, steps_past}
+use Rattle.jcard_sweeps.proofs.RunFaults.{passed_on}
+use Rattle.jcard_tear.proofs.CutFaults.{cuts_past, memory_uncut, steps_past}
 use Rattle.jcard_tear.proofs.cuts.push_cuts.Goals as goal
 
 pub loop-place-init : goal.loop-place-init

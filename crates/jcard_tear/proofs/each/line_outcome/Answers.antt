@@ -1,4 +1,4 @@
-use Rattle.jcard_tear.specs.ScriptLines.{line_of}
+use Rattle.jcard_sweeps.specs.ScriptLines.{line_of}
 use Rattle.jcard_tear.specs.Sweep.{given_of}
 use Rattle.jcard_tear.proofs.CutCommands.{down_outcome}
 use Rattle.jcard_tear.proofs.each.line_outcome.Goals as goal

@@ -1,8 +1,9 @@
 use Rattle.std.proofs.Common.{inl, refl, subst, sym}
 use Rattle.jcard_tear.specs.Faults.{IsLineUncut}
-use Rattle.jcard_tear.specs.ScriptLines.{line_of}
+use Rattle.jcard_sweeps.specs.ScriptLines.{line_of}
 use Rattle.jcard_tear.specs.Sweep.{given_of}
-use Rattle.jcard_tear.proofs.CutFaults.{memory_unbegun, passed_on}
+use Rattle.jcard_sweeps.proofs.RunFaults.{passed_on}
+use Rattle.jcard_tear.proofs.CutFaults.{memory_unbegun}
 use Rattle.jcard_tear.proofs.each.line_told.Goals as goal
 
 pub returns : goal.returns

@@ -2,11 +2,11 @@ use Rattle.std.proofs.Common.{◌∙◌, [], ap, refl, sym, subst, inl, inr, get
 use Rattle.std.proofs.lemmas.Option.{slice_get-get_or, slice_get-map}
 use Rattle.std.specs.Prelude.{option_map}
 use Rattle.jcard_tear.specs.Faults.{IsLineUncut}
-use Rattle.jcard_tear.specs.ScriptLines.{line_of}
-use Rattle.jcard_tear.specs.declared.script_lines.ScriptLine.{ScriptLine}
+use Rattle.jcard_sweeps.specs.ScriptLines.{line_of}
+use Rattle.jcard_sweeps.specs.declared.script_lines.ScriptLine.{ScriptLine}
 use Rattle.jcard_tear.specs.Sweep.{given_of}
 use Rattle.jcard_tear.proofs.CutCommands.{swept_next, swept_none}
-use Rattle.jcard_tear.proofs.CutFaults.{passed_on}
+use Rattle.jcard_sweeps.proofs.RunFaults.{passed_on}
 use Rattle.jcard_tear.proofs.each.tear_each.Goals as goal
 
 pub loop-line-init : goal.loop-line-init

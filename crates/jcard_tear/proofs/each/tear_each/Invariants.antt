@@ -1,5 +1,5 @@
 use Rattle.std.proofs.Common.{take, map}
-use Rattle.jcard_tear.specs.ScriptLines.{line_of}
+use Rattle.jcard_sweeps.specs.ScriptLines.{line_of}
 use Rattle.jcard_tear.specs.Sweep.{AreSwept, given_of}
 use Rattle.jcard_tear.proofs.each.tear_each.Given as goal
 

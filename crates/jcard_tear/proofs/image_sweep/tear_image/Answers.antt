@@ -1,9 +1,9 @@
 use Rattle.std.proofs.Common.{◌∙◌, [], ◌++◌, ap, refl, inl, inr, map}
 use Rattle.std.proofs.lemmas.Result.{err_from_is_err_and}
 use Rattle.jcard_texts.proofs.Known.{appends_same}
-use Rattle.jcard_tear.specs.ScriptLines.{commands_of, line_of}
-use Rattle.jcard_tear.specs.Subject.{IsSubject}
-use Rattle.jcard_tear.specs.declared.subject.Subject.{Subject}
+use Rattle.jcard_sweeps.specs.ScriptLines.{commands_of, line_of}
+use Rattle.jcard_sweeps.specs.Subject.{IsSubject}
+use Rattle.jcard_sweeps.specs.declared.subject.Subject.{Subject}
 use Rattle.jcard_files.proofs.Effects.{unfailed}
 use Rattle.jcard_tear.proofs.image_sweep.tear_image.Goals as goal
 

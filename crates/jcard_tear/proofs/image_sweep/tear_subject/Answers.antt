@@ -1,11 +1,11 @@
 use Rattle.std.proofs.Common.{[], ◌++◌, refl, inl, inr, subst, sym}
 use Rattle.std.proofs.lemmas.Result.{err_from_is_err_and}
 use Rattle.jcard_texts.proofs.Known.{appends_same}
-use Rattle.jcard_tear.specs.SweepAsked.{sweep_asked_by}
-use Rattle.jcard_tear.specs.Subject.{IsProbeRead}
-use Rattle.jcard_tear.specs.Texts.{text_of}
-use Rattle.jcard_tear.specs.Output.{IsReportTold}
-use Rattle.jcard_tear.proofs.NamedParts.{among}
+use Rattle.jcard_sweeps.specs.SweepAsked.{sweep_asked_by}
+use Rattle.jcard_sweeps.specs.Subject.{IsProbeRead}
+use Rattle.jcard_sweeps.specs.Texts.{text_of}
+use Rattle.jcard_sweeps.specs.Output.{IsReportTold}
+use Rattle.jcard_sweeps.proofs.NamedParts.{among}
 use Rattle.jcard_files.proofs.Effects.{unfailed}
 use Rattle.jcard_tear.proofs.image_sweep.tear_subject.Goals as goal
 

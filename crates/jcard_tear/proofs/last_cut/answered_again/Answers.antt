@@ -3,7 +3,8 @@ use Rattle.jc_commit.specs.Image.{plain_of}
 use Rattle.jcard_outcomes.specs.declared.standing.Left.{Left}
 use Rattle.jcard_tear.proofs.KeptCuts.{told_last_cut}
 use Rattle.jcard_tear.proofs.OneHeaps.{gives_alike}
-use Rattle.jcard_tear.proofs.CutFaults.{memory_probed, passed_on}
+use Rattle.jcard_sweeps.proofs.RunFaults.{passed_on}
+use Rattle.jcard_tear.proofs.CutFaults.{memory_probed}
 use Rattle.jcard_tear.proofs.last_cut.answered_again.Goals as goal
 
 pub returns : goal.returns

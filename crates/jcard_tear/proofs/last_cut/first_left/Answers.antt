@@ -1,7 +1,8 @@
 use Rattle.std.proofs.Common.{◌∙◌, List, ℕ, refl, subst, sym}
 use Rattle.jcard_tear.specs.KeptCard.{GivesAnswers, HoldOneHeap}
 use Rattle.jcard_tear.proofs.OneHeaps.{gives_alike}
-use Rattle.jcard_tear.proofs.CutFaults.{memory_probed, passed_on}
+use Rattle.jcard_sweeps.proofs.RunFaults.{passed_on}
+use Rattle.jcard_tear.proofs.CutFaults.{memory_probed}
 use Rattle.jcard_tear.proofs.last_cut.first_left.Goals as goal
 
 pub returns-then-is_as_before : goal.returns-then-is_as_before

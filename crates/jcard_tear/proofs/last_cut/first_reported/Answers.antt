@@ -1,9 +1,10 @@
 use Rattle.std.proofs.Common.{◌∙◌, ap, subst, sym}
 use Rattle.jc_commit.specs.Image.{plain_of}
 use Rattle.jcard_outcomes.specs.declared.standing.Left.{Left}
-use Rattle.jcard_tear.specs.Faults.{IsProbeFault}
+use Rattle.jcard_sweeps.specs.Faults.{IsProbeFault}
 use Rattle.jcard_tear.proofs.KeptCuts.{told_last_cut}
-use Rattle.jcard_tear.proofs.CutFaults.{memory_probed, passed_on}
+use Rattle.jcard_sweeps.proofs.RunFaults.{passed_on}
+use Rattle.jcard_tear.proofs.CutFaults.{memory_probed}
 use Rattle.jcard_tear.proofs.last_cut.first_reported.Goals as goal
 
 pub returns : goal.returns

@@ -1,7 +1,8 @@
 use Rattle.std.proofs.Common.{subst, sym}
-use Rattle.jcard_tear.specs.Faults.{IsProbeFault}
+use Rattle.jcard_sweeps.specs.Faults.{IsProbeFault}
 use Rattle.jcard_tear.proofs.KeptCuts.{copied_alike}
-use Rattle.jcard_tear.proofs.CutFaults.{memory_probed, passed_on}
+use Rattle.jcard_sweeps.proofs.RunFaults.{passed_on}
+use Rattle.jcard_tear.proofs.CutFaults.{memory_probed}
 use Rattle.jcard_tear.proofs.last_cut.reported_cut.Goals as goal
 
 pub returns-clause-cut : goal.returns-clause-cut

@@ -1,4 +1,5 @@
-use Rattle.jcard_tear.proofs.CutFaults.{left_probed, run_left}
+use Rattle.jcard_sweeps.proofs.RunFaults.{run_left}
+use Rattle.jcard_tear.proofs.CutFaults.{left_probed}
 use Rattle.jcard_tear.proofs.last_cut.unanswered.Goals as goal
 
 pub returns-in-Err : goal.returns-in-Err

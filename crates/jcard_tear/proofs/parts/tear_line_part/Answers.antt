@@ -1,8 +1,9 @@
 use Rattle.std.proofs.Common.{refl, inl, inr, subst, sym}
 use Rattle.std.proofs.lemmas.Result.{MatchResult-weaker}
 use Rattle.jcard_tear.specs.Sweep.{IsProbe, given_of}
-use Rattle.jcard_tear.specs.declared.cuts.Command.{Command}
-use Rattle.jcard_tear.proofs.CutFaults.{passed_on, run_unbegun}
+use Rattle.jcard_sweeps.specs.declared.command.Command.{Command}
+use Rattle.jcard_sweeps.proofs.RunFaults.{passed_on}
+use Rattle.jcard_tear.proofs.CutFaults.{run_unbegun}
 use Rattle.jcard_tear.proofs.parts.tear_line_part.Goals as goal
 
 pub returns-clause-swept : goal.returns-clause-swept

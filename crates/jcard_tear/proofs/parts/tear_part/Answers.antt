@@ -1,6 +1,7 @@
 use Rattle.std.proofs.Common.{subst, sym}
 use Rattle.jcard_tear.specs.Faults.{IsUncutFor}
-use Rattle.jcard_tear.proofs.CutFaults.{memory_uncut, passed_on}
+use Rattle.jcard_sweeps.proofs.RunFaults.{passed_on}
+use Rattle.jcard_tear.proofs.CutFaults.{memory_uncut}
 use Rattle.jcard_tear.proofs.parts.tear_part.Goals as goal
 
 pub returns-clause-swept : goal.returns-clause-swept

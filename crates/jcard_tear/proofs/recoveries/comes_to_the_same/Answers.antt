@@ -1,8 +1,8 @@
 use Rattle.std.proofs.Common.{subst, sym}
-use Rattle.jcard_tear.specs.Runs.{IsLeft}
+use Rattle.jcard_sweeps.specs.Runs.{IsLeft}
 use Rattle.jcard_tear.proofs.CutRecoveries.{compared}
-use Rattle.jcard_tear.specs.Faults.{IsLeftFault}
-use Rattle.jcard_tear.proofs.CutFaults.{memory_left, passed_on}
+use Rattle.jcard_sweeps.specs.Faults.{IsLeftFault}
+use Rattle.jcard_sweeps.proofs.RunFaults.{memory_left, passed_on}
 use Rattle.jcard_tear.proofs.recoveries.comes_to_the_same.Goals as goal
 
 pub returns : goal.returns

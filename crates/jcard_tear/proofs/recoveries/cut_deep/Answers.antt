@@ -1,8 +1,8 @@
 use Rattle.std.proofs.Common.{◌∙◌, ◌^◌, ap, subst, sym}
 use Rattle.jcard_outcomes.specs.Recoveries.{recoveries_of}
 use Rattle.jcard_tear.proofs.CutRecoveries.{recoveries_told}
-use Rattle.jcard_tear.specs.Faults.{IsLeftFault, IsLogFault}
-use Rattle.jcard_tear.proofs.CutFaults.{log_left, passed_on}
+use Rattle.jcard_sweeps.specs.Faults.{IsLeftFault, IsLogFault}
+use Rattle.jcard_sweeps.proofs.RunFaults.{log_left, passed_on}
 use Rattle.jcard_tear.proofs.recoveries.cut_deep.Goals as goal
 
 pub returns : goal.returns

@@ -3,10 +3,10 @@ use Rattle.jc_words.specs.Store.{FuseStoreValue, with_fuse_armed}
 use Rattle.jc_commit.specs.Image.{IsGoodLog}
 use Rattle.jc_commit.specs.Journal.{OpeningFails}
 use Rattle.jc_commit.specs.declared.refusal.OpenRefusal.TheVariants.{StoreDown}
-use Rattle.jcard_tear.specs.Runs.{store_of}
+use Rattle.jcard_sweeps.specs.Runs.{store_of}
 use Rattle.jcard_tear.proofs.Fuses.{torn_at}
-use Rattle.jcard_tear.proofs.CutFaults.{memory_logged, refused_on}
-use Rattle.jcard_tear.proofs.WholeRuns.{under_fuse}
+use Rattle.jcard_sweeps.proofs.RunFaults.{memory_logged, refused_on}
+use Rattle.jcard_sweeps.proofs.WholeRuns.{under_fuse}
 use Rattle.jcard_tear.proofs.recoveries.cut_recovery.Goals as goal
 
 pub returns-in-Err-StoreDown-default-clause-torn : goal.returns-in-Err-StoreDown-default-clause-torn

@@ -1,8 +1,8 @@
 use Rattle.std.proofs.Common.{◌∙◌, arith, refl, subst, sym}
 use Rattle.jcard_tear.specs.Recoveries.{ComesToAnother, ComesToTheSame}
 use Rattle.jcard_tear.proofs.CutRecoveries.{same_more}
-use Rattle.jcard_tear.specs.Faults.{IsLeftFault, IsLogFault}
-use Rattle.jcard_tear.proofs.CutFaults.{log_left, memory_left, refused_on}
+use Rattle.jcard_sweeps.specs.Faults.{IsLeftFault, IsLogFault}
+use Rattle.jcard_sweeps.proofs.RunFaults.{log_left, memory_left, refused_on}
 use Rattle.jcard_tear.proofs.recoveries.first_difference.Goals as goal
 use Rattle.jcard_tear.proofs.recoveries.first_difference.Goals.{then-not-are_equal+in_ok-comes_to_the_same+else-not-branch, else-not-are_equal}
 

@@ -1,8 +1,9 @@
 use Rattle.std.proofs.Common.{refl, inl, subst}
 use Rattle.std.proofs.lemmas.Result.{MatchResult-weaker}
 use Rattle.jcard_tear.specs.Faults.{IsCarriedOut}
-use Rattle.jcard_tear.specs.Runs.{IsLeft}
-use Rattle.jcard_tear.proofs.CutFaults.{passed_on, probe_uncut, run_uncut}
+use Rattle.jcard_sweeps.specs.Runs.{IsLeft}
+use Rattle.jcard_sweeps.proofs.RunFaults.{passed_on}
+use Rattle.jcard_tear.proofs.CutFaults.{probe_uncut, run_uncut}
 use Rattle.jcard_tear.proofs.sweep.begun.Goals as goal
 
 pub returns-in_err-ran : goal.returns-in_err-ran

@@ -1,8 +1,10 @@
 use Rattle.std.proofs.Common.{◌∙◌, ◌++◌, ap, sym, refl, inl, inr, subst}
-use Rattle.jcard_tear.specs.Faults.{IsCarriedOut, IsProbeFault}
-use Rattle.jcard_tear.specs.Runs.{IsLeft, IsRunFault, Runs}
-use Rattle.jcard_tear.specs.Sweep.{IsLastLine}
-use Rattle.jcard_tear.proofs.CutFaults.{down_uncut, memory_uncut, passed_on, probe_uncut, run_uncut}
+use Rattle.jcard_sweeps.specs.Faults.{IsProbeFault}
+use Rattle.jcard_tear.specs.Faults.{IsCarriedOut}
+use Rattle.jcard_sweeps.specs.Runs.{IsLeft, IsRunFault, Runs}
+use Rattle.jcard_sweeps.specs.LastLine.{IsLastLine}
+use Rattle.jcard_sweeps.proofs.RunFaults.{passed_on}
+use Rattle.jcard_tear.proofs.CutFaults.{down_uncut, memory_uncut, probe_uncut, run_uncut}
 use Rattle.jcard_tear.proofs.sweep.done.Goals as goal
 
 pub returns : goal.returns

@@ -1,7 +1,7 @@
 use Rattle.std.proofs.Common.{◌∙◌, List, ℕ, subst, sym}
 use Rattle.jcard_outcomes.specs.declared.standing.Left.{Left}
 use Rattle.jcard_tear.specs.KeptCard.{GivesAnswers}
-use Rattle.jcard_tear.specs.Runs.{IsLeft}
+use Rattle.jcard_sweeps.specs.Runs.{IsLeft}
 use Rattle.jcard_tear.proofs.KeptCuts.{is_left}
 use Rattle.jcard_tear.proofs.sweep.left_standing.Goals as goal
 

@@ -1,7 +1,9 @@
 use Rattle.std.proofs.Common.{◌∙◌, ◌++◌, ap, refl, subst, sym}
 use Rattle.jc_objects.specs.Pins.{AreTriesIn}
-use Rattle.jcard_tear.specs.Faults.{IsImageFault, IsUncutFor}
-use Rattle.jcard_tear.proofs.CutFaults.{done_carried, image_probed, memory_uncut, passed_on, probe_uncut}
+use Rattle.jcard_sweeps.specs.Faults.{IsImageFault}
+use Rattle.jcard_tear.specs.Faults.{IsUncutFor}
+use Rattle.jcard_sweeps.proofs.RunFaults.{passed_on}
+use Rattle.jcard_tear.proofs.CutFaults.{done_carried, image_probed, memory_uncut, probe_uncut}
 use Rattle.jcard_tear.proofs.sweep.tear_share.Goals as goal
 
 pub returns-clause-swept : goal.returns-clause-swept

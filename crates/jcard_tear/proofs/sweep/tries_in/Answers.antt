@@ -1,4 +1,4 @@
-use Rattle.jcard_tear.proofs.CutFaults.{memory_imaged, passed_on}
+use Rattle.jcard_sweeps.proofs.RunFaults.{memory_imaged, passed_on}
 use Rattle.jcard_tear.proofs.sweep.tries_in.Goals as goal
 
 pub returns-in_err-copy : goal.returns-in_err-copy

@@ -1,6 +1,6 @@
 use Rattle.std.proofs.Common.{◌∙◌, ap, inl}
 use Rattle.jcard_outcomes.specs.Report.{are_whole}
-use Rattle.jcard_tear.proofs.CutFaults.{cause_passed_on}
+use Rattle.jcard_sweeps.proofs.RunFaults.{cause_passed_on}
 use Rattle.jcard_tear.proofs.target_cuts.cut_command.Goals as goal
 
 pub returns-in_err-sweep : goal.returns-in_err-sweep

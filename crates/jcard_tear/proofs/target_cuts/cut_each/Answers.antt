@@ -1,6 +1,6 @@
 use Rattle.std.proofs.Common.{◌∙◌, ap, refl, inl}
 use Rattle.jcard_outcomes.specs.Report.{verdicts_text}
-use Rattle.jcard_tear.proofs.CutFaults.{cause_passed_on}
+use Rattle.jcard_sweeps.proofs.RunFaults.{cause_passed_on}
 use Rattle.jcard_tear.proofs.target_cuts.cut_each.Goals as goal
 
 pub returns-in_err-sweeps : goal.returns-in_err-sweeps

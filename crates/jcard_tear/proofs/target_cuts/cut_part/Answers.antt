@@ -1,5 +1,5 @@
 use Rattle.std.proofs.Common.{refl, inl}
-use Rattle.jcard_tear.proofs.CutFaults.{cause_passed_on}
+use Rattle.jcard_sweeps.proofs.RunFaults.{cause_passed_on}
 use Rattle.jcard_tear.proofs.target_cuts.cut_part.Goals as goal
 
 pub returns-in_err-part : goal.returns-in_err-part

@@ -1,5 +1,5 @@
 use Rattle.std.proofs.Common.{◌∙◌}
-use Rattle.jcard_tear.specs.ScriptLines.{line_of}
+use Rattle.jcard_sweeps.specs.ScriptLines.{line_of}
 use Rattle.jcard_test.proofs.RowSweeps.{struck_all}
 use Rattle.jcard_test.proofs.row_sweep.told_of_faults.Goals as goal
 

@@ -1,7 +1,7 @@
 use Rattle.std.proofs.Common.{None, subst}
-use Rattle.jcard_tear.specs.ScriptLines.{line_of}
+use Rattle.jcard_sweeps.specs.ScriptLines.{line_of}
 use Rattle.jcard_tear.specs.Sweep.{IsLineSwept}
-use Rattle.jcard_tear.specs.declared.cuts.Behind.{Behind}
+use Rattle.jcard_sweeps.specs.declared.command.Behind.{Behind}
 use Rattle.jcard_test.proofs.RowSweeps.{told_all}
 use Rattle.jcard_test.proofs.row_sweep.told_of_line.Goals as goal
 

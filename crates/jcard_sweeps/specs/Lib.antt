@@ -1,0 +1,17 @@
+pub mod Runs
+pub mod LastLine
+pub mod Command
+pub mod Report
+pub mod Faults
+pub mod ScriptLines
+pub mod Names
+pub mod Texts
+pub mod SweepAsked
+pub mod Targets
+pub mod ScriptFault
+pub mod ReportedFaults
+pub mod Output
+pub mod Subject
+pub mod Shares
+pub mod PartTexts
+pub mod Join
