@@ -27,7 +27,7 @@ use jc_platform::names::PlatformClass;
 use jc_transient::ClearEvent;
 use jc_words::WordStore;
 use jc_world::arguments::short_argument;
-use jc_world::{NativeResult, StepExit, Stretch, short};
+use jc_world::{NativeResult, StepExit, short};
 
 // The hash function of a number.
 fn hash_named(number: i16) -> Option<HashAlgorithm>
