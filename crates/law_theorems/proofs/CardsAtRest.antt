@@ -7,11 +7,11 @@ use Rattle.jc_card.specs.Session.Requests.{Request, Command, Reset, ArmFuse, Pla
 use Rattle.jc_card.specs.State.Power.{PowerState, Up, Off, budget_of, durable_state, durable_state_in_store}
 use Rattle.jc_card.specs.Session.Serving.{Serves, SessionRun}
 use Rattle.jc_card.specs.Session.Starting.{Starts}
-use Rattle.law_images.specs.Cards.{IsOwnPower, StaysOwn}
-use Rattle.law_images.specs.Rest.{IsResting}
-use Rattle.law_images.proofs.Rest.{armed_rests, leave_at_rest, rests_so}
-use Rattle.law_images.proofs.Sessions.{stays_own}
-use Rattle.law_images.specs.Outcomes.{ComesTo, StoresCome}
+use Rattle.law_theorems.specs.Cards.{IsOwnPower, StaysOwn}
+use Rattle.law_theorems.specs.Rest.{IsResting}
+use Rattle.law_theorems.proofs.Rest.{armed_rests, leave_at_rest, rests_so}
+use Rattle.law_theorems.proofs.Sessions.{stays_own}
+use Rattle.law_theorems.specs.Outcomes.{ComesTo, StoresCome}
 
 pub comes_own : (t : Tokens) (s : PowerState) → ComesTo t s → IsOwnPower t s
 comes_own t s c = let stays : StaysOwn = stays_own one_table in stays.session t (Off c.budget c.first) c.requests c.replies s c.bytes c.own c.run

@@ -26,12 +26,12 @@ use Rattle.law_soundness.specs.MachineLaws.OwnerSwitches.{IsOfStep}
 use Rattle.law_soundness.proofs.Causes.{causes}
 use Rattle.law_soundness.proofs.CommandLaws.{commands_are_sound}
 use Rattle.law_soundness.proofs.CommandParts.{dispatched_apart, dispatched_more, nothing_more}
-use Rattle.law_images.specs.Cards.{IsOwnCard}
-use Rattle.law_images.specs.Outcomes.{AddNone, ComesWithin, memory_at}
-use Rattle.law_images.specs.LoadedPackages.{AreBytes}
+use Rattle.law_theorems.specs.Cards.{IsOwnCard}
+use Rattle.law_theorems.specs.Outcomes.{AddNone, ComesWithin, memory_at}
+use Rattle.law_theorems.specs.LoadedPackages.{AreBytes}
 use Rattle.law_soundness.proofs.Phases.{Good}
-use Rattle.law_images.proofs.Commands.{IsAnswered, creates_good, dispatched_good, runs_good}
-use Rattle.law_images.proofs.Sessions.{linked_known}
+use Rattle.law_theorems.proofs.Commands.{IsAnswered, creates_good, dispatched_good, runs_good}
+use Rattle.law_theorems.proofs.Sessions.{linked_known}
 use Rattle.law_theorems.specs.SessionTheorems.Commands.{CommandsRunCode}
 use Rattle.law_theorems.specs.SessionTheorems.References.{RunsFrom}
 use Rattle.law_theorems.proofs.CardsAtRest.{comes_own, comes_rests}

@@ -7,7 +7,7 @@ use Rattle.jc_heap.proofs.Losses.{kept}
 use Rattle.jc_memory.specs.State.{MemoryState, Effect, HeapMove, moves_of}
 use Rattle.jc_memory.proofs.ProgramLemmas.{heap_after}
 use Rattle.jc_card.specs.Card.{CardState}
-use Rattle.law_images.specs.Outcomes.{memory_at}
+use Rattle.law_theorems.specs.Outcomes.{memory_at}
 use Rattle.law_theorems.specs.SessionTheorems.Cuts.{IsBehind, IsHeapCutAt}
 use Rattle.law_theorems.proofs.Prefixes.{behind_both}
 

@@ -22,8 +22,8 @@ use Rattle.law_soundness.specs.MachineLaws.Soundness.{AreKnown}
 use Rattle.law_soundness.specs.MemoryLaws.State.{IsSoundMemory}
 use Rattle.law_soundness.proofs.Effects.{event_none}
 use Rattle.law_soundness.proofs.CommandEffects.{serving_keeps}
-use Rattle.law_images.proofs.Arrays.{below_end}
-use Rattle.law_images.specs.Tries.{is_owner_pin, tries_in}
+use Rattle.law_theorems.proofs.Arrays.{below_end}
+use Rattle.law_theorems.specs.Tries.{is_owner_pin, tries_in}
 use Rattle.law_theorems.specs.SessionTheorems.Cuts.{SetNoTries, SetsTries}
 use Rattle.law_theorems.specs.SessionTheorems.TryChanges.{Renews}
 use Rattle.law_theorems.proofs.OwnerPins.{an_object, pin_in, pin_stands}

@@ -18,11 +18,11 @@ use Rattle.law_code.specs.PinChanges.{IsChanged}
 use Rattle.law_code.proofs.AtomicEffects.{due_begun}
 use Rattle.law_soundness.specs.MachineLaws.Commands.{IsServed}
 use Rattle.law_soundness.specs.MemoryLaws.State.{IsSoundMemory}
-use Rattle.law_images.specs.Cards.{IsOwnCard}
-use Rattle.law_images.specs.Outcomes.{memory_at}
-use Rattle.law_images.specs.LoadedPackages.{AreBytes}
-use Rattle.law_images.specs.Tries.{is_owner_pin, tries_in}
-use Rattle.law_images.proofs.Sessions.{linked_known}
+use Rattle.law_theorems.specs.Cards.{IsOwnCard}
+use Rattle.law_theorems.specs.Outcomes.{memory_at}
+use Rattle.law_theorems.specs.LoadedPackages.{AreBytes}
+use Rattle.law_theorems.specs.Tries.{is_owner_pin, tries_in}
+use Rattle.law_theorems.proofs.Sessions.{linked_known}
 use Rattle.law_theorems.specs.SessionTheorems.Cuts.{IsBehind, IsHeapCutAt, KeepWhatWasDone, LeaveTheChangesBeforeThem, SetNoTries}
 use Rattle.law_theorems.proofs.CardsAtRest.{comes_own}
 use Rattle.law_theorems.proofs.Complete.{behind_complete}

@@ -48,12 +48,12 @@ use Rattle.jc_card.specs.State.Power.{KeptState, Off, Up, with_refusal}
 use Rattle.jc_card.specs.Session.Serving.{AnswersCommand, SessionRun}
 use Rattle.law_code.specs.Reach.{IsOutside}
 use Rattle.law_soundness.specs.MachineLaws.CommandParts.{IsOfRun}
-use Rattle.law_images.specs.Cards.{AreOfBytes, IsOwnKept, StaysOwn}
-use Rattle.law_images.specs.Outcomes.{AddNone, ComesTo, ComesWithin, memory_at}
-use Rattle.law_images.specs.Heaps.{IsOwnHeap}
-use Rattle.law_images.specs.LoadedPackages.{AreBytes}
-use Rattle.law_images.specs.Tries.{is_owner_pin}
-use Rattle.law_images.proofs.Sessions.{stays_own}
+use Rattle.law_theorems.specs.Cards.{AreOfBytes, IsOwnKept, StaysOwn}
+use Rattle.law_theorems.specs.Outcomes.{AddNone, ComesTo, ComesWithin, memory_at}
+use Rattle.law_theorems.specs.Heaps.{IsOwnHeap}
+use Rattle.law_theorems.specs.LoadedPackages.{AreBytes}
+use Rattle.law_theorems.specs.Tries.{is_owner_pin}
+use Rattle.law_theorems.proofs.Sessions.{stays_own}
 use Rattle.law_theorems.specs.SessionTheorems.Cuts.{IsHeapCutAt}
 use Rattle.law_theorems.specs.SessionTheorems.Eventful.{Acts, HaveEventfulWitness, MeetPremises, before_abort, before_commit}
 use Rattle.law_theorems.specs.SessionTheorems.Eventful.{before_update, to_commit, to_count, to_field, to_update}

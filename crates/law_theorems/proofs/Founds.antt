@@ -19,11 +19,11 @@ use Rattle.law_code.proofs.Same.{differ}
 use Rattle.law_code.proofs.AtomicEffects.{saved_within, due_begun}
 use Rattle.law_soundness.specs.MemoryLaws.State.{IsSoundMemory}
 use Rattle.law_soundness.specs.MachineLaws.Commands.{IsServed}
-use Rattle.law_images.specs.Cards.{IsOwnCard}
-use Rattle.law_images.proofs.Rest.{IsEmpty, empty_effect}
-use Rattle.law_images.proofs.Sessions.{linked_known}
-use Rattle.law_images.specs.Outcomes.{ComesWithin, memory_at}
-use Rattle.law_images.specs.Tries.{IsAsFound, PlaceStays, is_persistent_bytes}
+use Rattle.law_theorems.specs.Cards.{IsOwnCard}
+use Rattle.law_theorems.proofs.Rest.{IsEmpty, empty_effect}
+use Rattle.law_theorems.proofs.Sessions.{linked_known}
+use Rattle.law_theorems.specs.Outcomes.{ComesWithin, memory_at}
+use Rattle.law_theorems.specs.Tries.{IsAsFound, PlaceStays, is_persistent_bytes}
 use Rattle.jc_packages.specs.Objects.{is_bytes, is_object_address}
 use Rattle.law_soundness.proofs.Effects.{event_none}
 use Rattle.law_soundness.proofs.Values.{none_of}
@@ -36,8 +36,8 @@ use Rattle.law_theorems.proofs.Prefixes.{behind_both, due_after, due_all}
 use Rattle.law_theorems.proofs.ServedEffects.{AddsPackage, IsFine, commands_fine}
 use Rattle.jc_heap.specs.Heap.{HeapView}
 use Rattle.jc_card.specs.State.Power.{Up}
-use Rattle.law_images.specs.Outcomes.{ComesTo}
-use Rattle.law_images.specs.Tries.{tries_in}
+use Rattle.law_theorems.specs.Outcomes.{ComesTo}
+use Rattle.law_theorems.specs.Tries.{tries_in}
 use Rattle.law_theorems.proofs.CardsAtRest.{comes_rests}
 use Rattle.law_theorems.proofs.OwnerPins.{pin_in, pin_stands}
 use Rattle.law_theorems.proofs.KeptTries.{IsLaidOutAt, away_at_begin, laid_behind, pin_item, tries_stay}

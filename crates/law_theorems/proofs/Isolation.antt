@@ -21,9 +21,9 @@ use Rattle.law_soundness.specs.MemoryLaws.State.{IsSoundMemory}
 use Rattle.law_soundness.specs.MachineLaws.OwnerSwitches.{IsOfStep}
 use Rattle.law_soundness.proofs.Causes.{causes}
 use Rattle.law_soundness.proofs.CommandEffects.{serving_keeps}
-use Rattle.law_images.specs.Cards.{IsOwnCard}
-use Rattle.law_images.proofs.Sessions.{linked_known}
-use Rattle.law_images.specs.Outcomes.{AddNone, ComesWithin, memory_at}
+use Rattle.law_theorems.specs.Cards.{IsOwnCard}
+use Rattle.law_theorems.proofs.Sessions.{linked_known}
+use Rattle.law_theorems.specs.Outcomes.{AddNone, ComesWithin, memory_at}
 use Rattle.law_theorems.specs.SessionTheorems.Isolation.{RunsApart, StayApart, StaysApart, StepsApart}
 use Rattle.law_theorems.proofs.Prefixes.{due_all}
 use Rattle.law_theorems.proofs.ServedEffects.{AddsPackage, IsFine, commands_fine}

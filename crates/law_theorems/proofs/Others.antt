@@ -22,7 +22,7 @@ use Rattle.law_soundness.specs.MemoryLaws.State.{IsSoundMemory}
 use Rattle.law_soundness.specs.MachineLaws.Commands.{IsServed}
 use Rattle.law_soundness.proofs.Frames.{same_object}
 use Rattle.law_soundness.proofs.CommandEffects.{serving_keeps}
-use Rattle.law_images.specs.Tries.{is_owner_pin, is_persistent_bytes}
+use Rattle.law_theorems.specs.Tries.{is_owner_pin, is_persistent_bytes}
 use Rattle.law_theorems.proofs.RestoredCells.{IsDurableSet, IsSame, SetsCounter, SetsByte, durable_set, open_still, parted, set_beside}
 
 -- what says that it is an array of bytes is an object

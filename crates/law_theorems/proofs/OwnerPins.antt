@@ -19,7 +19,7 @@ use Rattle.law_soundness.specs.MemoryLaws.State.{IsSoundMemory}
 use Rattle.law_soundness.specs.MachineLaws.Soundness.{AreKnown}
 use Rattle.law_soundness.proofs.RunObjects.{instance_kind, kept_behind, kept_fits}
 use Rattle.law_soundness.proofs.Effects.{event_none}
-use Rattle.law_images.specs.Tries.{is_owner_pin}
+use Rattle.law_theorems.specs.Tries.{is_owner_pin}
 use Rattle.law_theorems.proofs.Pins.{PinIn}
 use Rattle.law_theorems.proofs.EffectWords.{PinStands}
 

@@ -32,13 +32,13 @@ use Rattle.law_soundness.specs.MachineLaws.Commands.{IsServed}
 use Rattle.law_soundness.specs.MemoryLaws.Fit.{FitPlaces, FitsChange, FitsPlace, FitsRun, IsPinObject, OfPin, OfPlaces, OfRegistry, OfValue}
 use Rattle.law_soundness.specs.MemoryLaws.State.{IsSoundMemory}
 use Rattle.law_soundness.proofs.Effects.{event_none}
-use Rattle.law_images.specs.Cards.{IsOwnCard}
-use Rattle.law_images.proofs.Separation.{record_some}
-use Rattle.law_images.proofs.Arrays.{below_end, item_behind}
-use Rattle.law_images.proofs.Sessions.{linked_known}
-use Rattle.law_images.proofs.AddedPackages.{item-push_other}
-use Rattle.law_images.specs.Outcomes.{memory_at}
-use Rattle.law_images.specs.Tries.{SetsAnew}
+use Rattle.law_theorems.specs.Cards.{IsOwnCard}
+use Rattle.law_theorems.proofs.Separation.{record_some}
+use Rattle.law_theorems.proofs.Arrays.{below_end, item_behind}
+use Rattle.law_theorems.proofs.Sessions.{linked_known}
+use Rattle.law_theorems.proofs.AddedPackages.{item-push_other}
+use Rattle.law_theorems.specs.Outcomes.{memory_at}
+use Rattle.law_theorems.specs.Tries.{SetsAnew}
 use Rattle.law_theorems.specs.SessionTheorems.TryChanges.{Renews, TriesChangeByPinCalls}
 use Rattle.law_theorems.proofs.CardsAtRest.{comes_own}
 use Rattle.law_theorems.proofs.EffectWords.{PinStands, is_value, no_instance}

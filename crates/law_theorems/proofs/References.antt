@@ -33,8 +33,8 @@ use Rattle.law_soundness.proofs.RunObjects.{kept_behind}
 use Rattle.law_soundness.proofs.StepLaws.{given}
 use Rattle.law_soundness.proofs.StepsAndRuns.{steps_sound}
 use Rattle.law_soundness.proofs.Transients.{names_object}
-use Rattle.law_images.proofs.Sessions.{linked_known}
-use Rattle.law_images.specs.Outcomes.{AddNone, ComesWithin, memory_at}
+use Rattle.law_theorems.proofs.Sessions.{linked_known}
+use Rattle.law_theorems.specs.Outcomes.{AddNone, ComesWithin, memory_at}
 use Rattle.law_theorems.specs.SessionTheorems.References.{ReferencesNameObjects, RunsFrom}
 use Rattle.law_theorems.proofs.CardsAtRest.{comes_own}
 use Rattle.law_theorems.proofs.TransientCells.{name_what_is_there}

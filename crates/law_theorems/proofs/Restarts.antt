@@ -21,7 +21,7 @@ use Rattle.jc_card.specs.ProductImages.{IsCardHeap}
 use Rattle.jc_card.specs.PowerUp.Reset.{ReadsAsZero}
 use Rattle.jc_card.specs.Session.Starting.{IsPoweredUp}
 use Rattle.law_soundness.specs.MemoryLaws.State.{IsFitObject}
-use Rattle.law_images.specs.Heaps.{IsOwnHeap}
+use Rattle.law_theorems.specs.Heaps.{IsOwnHeap}
 
 -- ---- transient contents
 

@@ -25,7 +25,7 @@ use Rattle.law_soundness.specs.MachineLaws.Commands.{IsServed}
 use Rattle.law_soundness.specs.MemoryLaws.Fit.{IsPinObject}
 use Rattle.law_soundness.specs.MemoryLaws.State.{IsSoundMemory}
 use Rattle.law_soundness.proofs.CommandEffects.{serving_keeps}
-use Rattle.law_images.specs.Tries.{ChangesFirst, PlaceStays, value_after}
+use Rattle.law_theorems.specs.Tries.{ChangesFirst, PlaceStays, value_after}
 use Rattle.law_theorems.proofs.EffectWords.{no_instance}
 
 -- what goes back goes on going back within the transaction

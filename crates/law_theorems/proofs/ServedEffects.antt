@@ -9,10 +9,10 @@ use Rattle.jc_linker.specs.Values.{Packages}
 use Rattle.jc_platform.specs.Tokens.{Tokens}
 use Rattle.jc_card.specs.Answers.{exchange}
 use Rattle.jc_card.specs.Card.{CardState}
-use Rattle.law_images.specs.Cards.{IsOwnCard}
-use Rattle.law_images.specs.LoadedPackages.{AreBytes}
-use Rattle.law_images.proofs.Commands.{creates_good, dispatched_good, runs_good}
-use Rattle.law_images.proofs.Sessions.{linked_known}
+use Rattle.law_theorems.specs.Cards.{IsOwnCard}
+use Rattle.law_theorems.specs.LoadedPackages.{AreBytes}
+use Rattle.law_theorems.proofs.Commands.{creates_good, dispatched_good, runs_good}
+use Rattle.law_theorems.proofs.Sessions.{linked_known}
 use Rattle.law_soundness.specs.MachineLaws.Commands.{IsServed}
 use Rattle.law_soundness.specs.MemoryLaws.State.{IsSoundMemory}
 use Rattle.law_soundness.proofs.CommandLaws.{commands_are_sound}

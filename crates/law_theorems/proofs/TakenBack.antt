@@ -18,13 +18,13 @@ use Rattle.jc_card.specs.Session.Starting.{IsPoweredUp}
 use Rattle.law_code.specs.Orderly.{KeepsTransactionOrder}
 use Rattle.law_code.specs.TransactionLaws.{IsDurableOutside, TearLeavesAfter}
 use Rattle.law_code.proofs.AtomicEffects.{begun_inside, behind, lost_at}
-use Rattle.law_images.specs.LoadedPackages.{AreBytes}
-use Rattle.law_images.specs.Cards.{IsOfBytes, IsOwnCard}
-use Rattle.law_images.proofs.Rest.{leave_at_rest, rests_so}
-use Rattle.law_images.specs.Outcomes.{AreDown, ComesTo, IsDown, memory_at}
-use Rattle.law_images.specs.Losses.{IsLeft, IsLeftBy, IsWhatWasFound}
+use Rattle.law_theorems.specs.LoadedPackages.{AreBytes}
+use Rattle.law_theorems.specs.Cards.{IsOfBytes, IsOwnCard}
+use Rattle.law_theorems.proofs.Rest.{leave_at_rest, rests_so}
+use Rattle.law_theorems.specs.Outcomes.{AreDown, ComesTo, IsDown, memory_at}
+use Rattle.law_theorems.specs.Losses.{IsLeft, IsLeftBy, IsWhatWasFound}
 use Rattle.law_theorems.specs.SessionTheorems.TakenBack.{IsTakenBack}
-use Rattle.law_images.specs.Tries.{IsAsFound}
+use Rattle.law_theorems.specs.Tries.{IsAsFound}
 use Rattle.law_theorems.proofs.Founds.{is_found}
 use Rattle.law_theorems.proofs.Orders.{commands_orderly}
 use Rattle.law_theorems.proofs.Prefixes.{behind_both, due_after, front}

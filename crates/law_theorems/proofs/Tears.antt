@@ -26,11 +26,11 @@ use Rattle.jcard_outcomes.specs.declared.standing.Left.{Left}
 use Rattle.jcard_sweeps.specs.declared.command.Command.{Command as CutCommand}
 use Rattle.jcard_sweeps.specs.Runs.{IsLeft, Runs, store_of}
 use Rattle.jcard_tear.specs.Sweep.{cut_script}
-use Rattle.law_images.specs.Outcomes.{ComesTo}
-use Rattle.law_images.specs.CardLaws.{IsOwnStore}
-use Rattle.law_images.specs.ScriptLaws.{asked_by, asked_by_form, state_of}
-use Rattle.law_images.proofs.Rest.{leave_at_rest}
-use Rattle.law_images.proofs.Scripts.{are_sessions, ask_bytes}
+use Rattle.law_theorems.specs.Outcomes.{ComesTo}
+use Rattle.law_theorems.specs.CardLaws.{IsOwnStore}
+use Rattle.law_theorems.specs.ScriptLaws.{asked_by, asked_by_form, state_of}
+use Rattle.law_theorems.proofs.Rest.{leave_at_rest}
+use Rattle.law_theorems.proofs.Scripts.{are_sessions, ask_bytes}
 use Rattle.law_theorems.specs.SessionTheorems.Tears.{CutsAreNamed, IsNamed, ReadsAsCut}
 use Rattle.law_theorems.proofs.CardsAtRest.{comes_rests, stores_come}
 use Rattle.law_theorems.proofs.Fuse.{at_count, by_fuse, faults_grow}

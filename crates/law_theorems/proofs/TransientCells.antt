@@ -10,9 +10,9 @@ use Rattle.jc_card.specs.Card.{CardState}
 use Rattle.jc_card.specs.State.Power.{Up}
 use Rattle.law_soundness.specs.MachineLaws.Commands.{IsServed}
 use Rattle.law_soundness.specs.MemoryLaws.State.{TransientCells}
-use Rattle.law_images.specs.Cards.{IsOwnCard}
-use Rattle.law_images.proofs.LivingLoads.{package_carried}
-use Rattle.law_images.specs.Outcomes.{ComesWithin, memory_at}
+use Rattle.law_theorems.specs.Cards.{IsOwnCard}
+use Rattle.law_theorems.proofs.LivingLoads.{package_carried}
+use Rattle.law_theorems.specs.Outcomes.{ComesWithin, memory_at}
 use Rattle.law_theorems.proofs.CardsAtRest.{comes_own}
 use Rattle.law_theorems.proofs.Prefixes.{due_all}
 use Rattle.law_theorems.proofs.PinTries.{added_end}

@@ -32,13 +32,13 @@ use Rattle.jc_card.proofs.Laid.{if_laid}
 use Rattle.law_soundness.specs.References.{MayBegin}
 use Rattle.law_soundness.proofs.LivingReferences.{first_living, none_living}
 use Rattle.law_code.proofs.ByteTokens.{have_bytes}
-use Rattle.law_images.specs.Cards.{IsOwnKept}
-use Rattle.law_images.specs.Outcomes.{ComesTo}
-use Rattle.law_images.specs.Heaps.{IsOwnHeap}
-use Rattle.law_images.specs.LoadedPackages.{AreBytes}
-use Rattle.law_images.proofs.CardHeaps.{own_at}
-use Rattle.law_images.proofs.CardImages.{new_layout}
-use Rattle.law_images.proofs.NewImages.{new_images}
+use Rattle.law_theorems.specs.Cards.{IsOwnKept}
+use Rattle.law_theorems.specs.Outcomes.{ComesTo}
+use Rattle.law_theorems.specs.Heaps.{IsOwnHeap}
+use Rattle.law_theorems.specs.LoadedPackages.{AreBytes}
+use Rattle.law_theorems.proofs.CardHeaps.{own_at}
+use Rattle.law_theorems.proofs.CardImages.{new_layout}
+use Rattle.law_theorems.proofs.NewImages.{new_images}
 use Rattle.law_theorems.proofs.Restarts.{powered, restarted}
 use Rattle.law_theorems.specs.SessionTheorems.Witness.{HaveWitnesses, NewStoresServe, begin_load_bytes, new_blown, new_kept, select_bytes}
 

@@ -1,8 +1,15 @@
-//! The main theorems: what is promised of whole sessions, as laws.
+//! Laws of cards, sessions and scripts: they stay sound, and so do the images that they leave and the packages read from them. The
+//! main theorems: what is promised of whole sessions, as laws.
 #![tactic(auto)]
 
+mod card_laws;
+mod growth_laws;
+mod script_laws;
 mod session_theorems;
 
+pub use card_laws::sessions_leave_images_that_power_up_again;
+pub use growth_laws::{package_records_are_of_words, packages_that_were_read_are_linked};
+pub use script_laws::scripts_are_sessions;
 pub use session_theorems::{
     a_cut_leaves_the_changes_before_it, commands_are_the_environments_and_runs_of_code,
     cuts_that_are_told_are_those_that_the_law_names, down_tells_of_refused_writes,

@@ -1,5 +1,5 @@
 //! Laws of whole sessions.
-ghost use Rattle.law_images.specs.Outcomes.{StoresCome};
+ghost use Rattle.law_theorems.specs.Outcomes.{StoresCome};
 ghost use Rattle.law_theorems.specs.SessionTheorems.Commands.{CommandsRunCode};
 ghost use Rattle.law_theorems.specs.SessionTheorems.Cuts.{KeepWhatWasDone, LeaveTheChangesBeforeThem};
 ghost use Rattle.law_theorems.specs.SessionTheorems.Eventful.{HaveEventfulWitness};

@@ -5,7 +5,7 @@ use Rattle.jc_memory.specs.State.{Effect, HeapMove, apply_effects}
 use Rattle.jc_platform.specs.Tokens.{Tokens}
 use Rattle.jc_card.specs.Card.{CardState}
 use Rattle.law_soundness.specs.MachineLaws.CommandParts.{IsByEnvironment, IsOfRun}
-use Rattle.law_images.specs.Outcomes.{ComesWithin, memory_at}
+use Rattle.law_theorems.specs.Outcomes.{ComesWithin, memory_at}
 use Rattle.law_theorems.specs.SessionTheorems.References.{RunsFrom}
 
 pub record CommandsRunCode : Type 0 where

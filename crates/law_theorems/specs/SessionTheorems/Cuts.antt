@@ -13,10 +13,10 @@ use Rattle.jc_card.specs.Session.Requests.{Request, Reset, Reply, Ready, Down}
 use Rattle.jc_card.specs.State.Power.{KeptState, Up, Off}
 use Rattle.jc_card.specs.Session.Serving.{AnswersCommand, SessionRun}
 use Rattle.law_code.specs.PinChanges.{IsChanged}
-use Rattle.law_images.specs.Outcomes.{AreDown, ComesTo, memory_at}
-use Rattle.law_images.specs.Losses.{IsLeft}
-use Rattle.law_images.specs.LoadedPackages.{AreBytes}
-use Rattle.law_images.specs.Tries.{SetsAnew, is_owner_pin, tries_in}
+use Rattle.law_theorems.specs.Outcomes.{AreDown, ComesTo, memory_at}
+use Rattle.law_theorems.specs.Losses.{IsLeft}
+use Rattle.law_theorems.specs.LoadedPackages.{AreBytes}
+use Rattle.law_theorems.specs.Tries.{SetsAnew, is_owner_pin, tries_in}
 
 -- a command is cut when exactly k of its writes have passed: it began with these effects, the refused write is one of theirs, and this is the
 -- durable heap after those of their moves that are complete by then

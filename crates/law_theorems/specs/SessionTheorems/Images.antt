@@ -18,9 +18,9 @@ use Rattle.jc_card.specs.Session.{SessionEnds}
 use Rattle.jcard_script.specs.declared.script.ScriptFault.{ScriptFault}
 use Rattle.jcard_script.specs.declared.script.ScriptFault.TheVariants.{PowerFault as NotPoweredUp}
 use Rattle.jcard_script.specs.Script.{EndsWithin}
-use Rattle.law_images.specs.Cards.{AreOfBytes}
-use Rattle.law_images.specs.CardLaws.{IsOwnStore}
-use Rattle.law_images.specs.ScriptLaws.{state_of}
+use Rattle.law_theorems.specs.Cards.{AreOfBytes}
+use Rattle.law_theorems.specs.CardLaws.{IsOwnStore}
+use Rattle.law_theorems.specs.ScriptLaws.{state_of}
 
 -- from the store of a new image sessions may go on, and each session, however it ends, leaves such a store; neither its first power up nor a
 -- reset in it finds a fault but want of memory, and no power up over such a store does, but that a write was refused

@@ -12,7 +12,7 @@ use Rattle.law_code.specs.Reach.{IsOutside, KeepsCells}
 use Rattle.law_code.specs.IsolationLaws.Runs.{MayBecome}
 use Rattle.law_code.specs.IsolationLaws.Steps.{Stays}
 use Rattle.law_soundness.specs.MachineLaws.OwnerSwitches.{Cause, SwitchesHaveCauses}
-use Rattle.law_images.specs.Outcomes.{AddNone, ComesWithin, memory_at}
+use Rattle.law_theorems.specs.Outcomes.{AddNone, ComesWithin, memory_at}
 
 -- an effect of a step takes nothing back, and code goes on running for the same owner: where a method is called in another context, a server
 -- is asked, or a method ends, it does so for an owner who is the same

@@ -13,7 +13,7 @@ use Rattle.law_code.specs.IsolationLaws.Runs.{RunSteps}
 use Rattle.law_soundness.specs.LivingReferences.{AreLivingFrames}
 use Rattle.law_soundness.specs.References.{EndsLiving, HandsObjects, MayBegin, NamesObjects}
 use Rattle.law_soundness.specs.MemoryLaws.State.{TransientCells}
-use Rattle.law_images.specs.Outcomes.{AddNone, ComesWithin, memory_at}
+use Rattle.law_theorems.specs.Outcomes.{AddNone, ComesWithin, memory_at}
 
 -- this many steps of code, from where a method may begin, lead, after these effects of a command of a session, to these frames and this memory;
 -- an attack may come before one of them

@@ -9,11 +9,11 @@ use Rattle.jc_dispatch.specs.Phase.{close}
 use Rattle.jc_card.specs.Session.Requests.{Request, Reset, Reply, Response, Ready, Down}
 use Rattle.jc_card.specs.State.Power.{Up}
 use Rattle.jc_card.specs.Session.Serving.{AnswersCommand, SessionRun}
-use Rattle.law_images.specs.Cards.{IsOfBytes}
-use Rattle.law_images.specs.Outcomes.{AreDown, ComesTo, ComesWithin, memory_at}
-use Rattle.law_images.specs.Losses.{IsLeftBy, IsWhatWasFound}
-use Rattle.law_images.specs.LoadedPackages.{AreBytes}
-use Rattle.law_images.specs.Rest.{IsResting}
+use Rattle.law_theorems.specs.Cards.{IsOfBytes}
+use Rattle.law_theorems.specs.Outcomes.{AreDown, ComesTo, ComesWithin, memory_at}
+use Rattle.law_theorems.specs.Losses.{IsLeftBy, IsWhatWasFound}
+use Rattle.law_theorems.specs.LoadedPackages.{AreBytes}
+use Rattle.law_theorems.specs.Rest.{IsResting}
 
 pub record IsTakenBack : Type 0 where
   -- the power is cut within a request, and within each of any number of resets; meanwhile commands are answered down, and the fuse may be

@@ -13,9 +13,9 @@ use Rattle.jcard_outcomes.specs.declared.standing.Left.{Left}
 use Rattle.jcard_sweeps.specs.declared.command.Command.{Command as CutCommand}
 use Rattle.jcard_sweeps.specs.Runs.{IsLeft, Runs, store_of}
 use Rattle.jcard_tear.specs.Sweep.{cut_script}
-use Rattle.law_images.specs.Outcomes.{ComesTo}
-use Rattle.law_images.specs.CardLaws.{IsOwnStore}
-use Rattle.law_images.specs.ScriptLaws.{state_of}
+use Rattle.law_theorems.specs.Outcomes.{ComesTo}
+use Rattle.law_theorems.specs.CardLaws.{IsOwnStore}
+use Rattle.law_theorems.specs.ScriptLaws.{state_of}
 use Rattle.law_theorems.specs.SessionTheorems.Cuts.{IsHeapCutAt}
 
 -- so the script of a cut reads: some lines, one that arms the fuse k writes ahead, and last a command of these bytes

@@ -5,8 +5,8 @@ use Rattle.jc_memory.specs.State.{MemoryState, Effect, HeapMove}
 use Rattle.jc_environment.specs.Pins.{counter}
 use Rattle.jc_platform.specs.Tokens.{Tokens}
 use Rattle.jc_card.specs.Card.{CardState}
-use Rattle.law_images.specs.Outcomes.{ComesWithin, memory_at}
-use Rattle.law_images.specs.Tries.{SetsAnew, is_owner_pin, tries_in}
+use Rattle.law_theorems.specs.Outcomes.{ComesWithin, memory_at}
+use Rattle.law_theorems.specs.Tries.{SetsAnew, is_owner_pin, tries_in}
 
 -- an effect counts the tries of the PIN, updates it or sets it up, or takes back what the transaction changed
 abbrev pub Renews : ℕ → Effect → MemoryState → Type 0

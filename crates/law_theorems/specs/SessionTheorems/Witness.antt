@@ -21,8 +21,8 @@ use Rattle.jc_card.specs.Session.Requests.{Reset, Response, Ready, Down}
 use Rattle.jc_card.specs.State.Power.{PowerState, Up, Off, KeptState, StoreState, armed, durable_state, with_refusal}
 use Rattle.jc_card.specs.Session.Serving.{AnswersCommand, Serves, SessionRun}
 use Rattle.jc_card.specs.Session.{SessionEnds}
-use Rattle.law_images.specs.Outcomes.{ComesTo, ComesWithin}
-use Rattle.law_images.specs.LoadedPackages.{AreBytes}
+use Rattle.law_theorems.specs.Outcomes.{ComesTo, ComesWithin}
+use Rattle.law_theorems.specs.LoadedPackages.{AreBytes}
 use Rattle.law_theorems.specs.DownRuns.{ArmNone}
 use Rattle.law_theorems.specs.SessionTheorems.Fuse.{refusals_of}
 use Rattle.law_theorems.specs.SessionTheorems.References.{RunsFrom}

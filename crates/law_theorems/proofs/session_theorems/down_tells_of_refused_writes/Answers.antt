@@ -1,4 +1,4 @@
-use Rattle.law_theorems.proofs.Sessions.{tells}
+use Rattle.law_theorems.proofs.SessionStores.{tells}
 use Rattle.law_theorems.proofs.session_theorems.down_tells_of_refused_writes.Goals as goal
 
 pub returns : goal.returns

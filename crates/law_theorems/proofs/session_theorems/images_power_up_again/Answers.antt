@@ -1,4 +1,4 @@
-use Rattle.law_theorems.proofs.Sessions.{again}
+use Rattle.law_theorems.proofs.SessionStores.{again}
 use Rattle.law_theorems.proofs.session_theorems.images_power_up_again.Goals as goal
 
 pub returns : goal.returns

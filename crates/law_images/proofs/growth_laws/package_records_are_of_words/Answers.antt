@@ -1,5 +1,0 @@
-use Rattle.law_images.proofs.Words.{images_have_words}
-use Rattle.law_images.proofs.growth_laws.package_records_are_of_words.Goals as goal
-
-pub returns : goal.returns
-returns c = images_have_words
