@@ -1,9 +1,9 @@
 -- KeyBuilder and key objects: what their calls may do, all of which do what they answer.
 use Rattle.std.proofs.Common.{ℕ, List}
 use Rattle.jc_memory.specs.State.{MemoryState, Effect}
-use Rattle.jc_platform.specs.declared.names.EcKeysMethod.{EcKeysMethod}
+use Rattle.jc_platform.specs.declared.key_methods.EcKeysMethod.{EcKeysMethod}
 use Rattle.jc_platform.specs.declared.names.KeysMethod.{KeysMethod}
-use Rattle.jc_platform.specs.declared.names.RsaKeysMethod.{RsaKeysMethod}
+use Rattle.jc_platform.specs.declared.key_methods.RsaKeysMethod.{RsaKeysMethod}
 use Rattle.jc_platform.specs.declared.names.KeysMethod.TheVariants as keys
 use Rattle.jc_platform.specs.declared.names.PlatformMethod.TheVariants as rooms
 use Rattle.jc_linker.specs.Values.{Packages}

@@ -7,12 +7,12 @@ use Rattle.jc_frames.specs.declared.outcome.FrameExit.{FrameExit}
 use Rattle.jc_frames.specs.declared.outcome.FrameExit.TheVariants.{End, Throw}
 use Rattle.jc_frames.specs.declared.outcome.Outcome.TheVariants.{Fault}
 use Rattle.jc_memory.specs.State.{MemoryState}
-use Rattle.jc_platform.specs.declared.names.EcKeysMethod.{EcKeysMethod}
-use Rattle.jc_platform.specs.declared.names.EcKeysMethod.TheVariants.{EcKeyObjectSetFieldFp, EcKeyObjectSetFieldF2m, EcKeyObjectSetFieldF2mOfThree}
-use Rattle.jc_platform.specs.declared.names.EcKeysMethod.TheVariants.{EcKeyObjectSetA, EcKeyObjectSetB, EcKeyObjectSetG, EcKeyObjectSetR, EcKeyObjectSetK}
-use Rattle.jc_platform.specs.declared.names.EcKeysMethod.TheVariants.{EcKeyObjectGetField, EcKeyObjectGetA, EcKeyObjectGetB, EcKeyObjectGetG, EcKeyObjectGetR}
-use Rattle.jc_platform.specs.declared.names.EcKeysMethod.TheVariants.{EcKeyObjectGetK, EcKeyObjectCopyDomainParametersFrom}
-use Rattle.jc_platform.specs.declared.names.EcKeysMethod.TheVariants.{EcPublicKeyObjectSetW, EcPublicKeyObjectGetW, EcPrivateKeyObjectSetS, EcPrivateKeyObjectGetS}
+use Rattle.jc_platform.specs.declared.key_methods.EcKeysMethod.{EcKeysMethod}
+use Rattle.jc_platform.specs.declared.key_methods.EcKeysMethod.TheVariants.{EcKeyObjectSetFieldFp, EcKeyObjectSetFieldF2m, EcKeyObjectSetFieldF2mOfThree}
+use Rattle.jc_platform.specs.declared.key_methods.EcKeysMethod.TheVariants.{EcKeyObjectSetA, EcKeyObjectSetB, EcKeyObjectSetG, EcKeyObjectSetR, EcKeyObjectSetK}
+use Rattle.jc_platform.specs.declared.key_methods.EcKeysMethod.TheVariants.{EcKeyObjectGetField, EcKeyObjectGetA, EcKeyObjectGetB, EcKeyObjectGetG, EcKeyObjectGetR}
+use Rattle.jc_platform.specs.declared.key_methods.EcKeysMethod.TheVariants.{EcKeyObjectGetK, EcKeyObjectCopyDomainParametersFrom}
+use Rattle.jc_platform.specs.declared.key_methods.EcKeysMethod.TheVariants.{EcPublicKeyObjectSetW, EcPublicKeyObjectGetW, EcPrivateKeyObjectSetS, EcPrivateKeyObjectGetS}
 use Rattle.jc_platform.specs.declared.names.PlatformClass.TheVariants as class
 use Rattle.jc_linker.specs.Values.{Packages}
 use Rattle.jc_world.specs.Answers.{and_then}

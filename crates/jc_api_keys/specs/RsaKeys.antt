@@ -3,12 +3,12 @@ use Rattle.std.specs.Prelude.{List, Result}
 use Rattle.jc_frames.specs.declared.cell.Cell.{Cell}
 use Rattle.jc_frames.specs.declared.outcome.FrameExit.{FrameExit}
 use Rattle.jc_memory.specs.State.{MemoryState}
-use Rattle.jc_platform.specs.declared.names.RsaKeysMethod.{RsaKeysMethod}
-use Rattle.jc_platform.specs.declared.names.RsaKeysMethod.TheVariants.{RsaKeyObjectSetModulus, RsaKeyObjectSetExponent, RsaKeyObjectGetModulus}
-use Rattle.jc_platform.specs.declared.names.RsaKeysMethod.TheVariants.{RsaKeyObjectGetExponent, RsaPrivateCrtKeyObjectSetP, RsaPrivateCrtKeyObjectSetQ}
-use Rattle.jc_platform.specs.declared.names.RsaKeysMethod.TheVariants.{RsaPrivateCrtKeyObjectSetDp1, RsaPrivateCrtKeyObjectSetDq1, RsaPrivateCrtKeyObjectSetPq}
-use Rattle.jc_platform.specs.declared.names.RsaKeysMethod.TheVariants.{RsaPrivateCrtKeyObjectGetP, RsaPrivateCrtKeyObjectGetQ, RsaPrivateCrtKeyObjectGetDp1}
-use Rattle.jc_platform.specs.declared.names.RsaKeysMethod.TheVariants.{RsaPrivateCrtKeyObjectGetDq1, RsaPrivateCrtKeyObjectGetPq}
+use Rattle.jc_platform.specs.declared.key_methods.RsaKeysMethod.{RsaKeysMethod}
+use Rattle.jc_platform.specs.declared.key_methods.RsaKeysMethod.TheVariants.{RsaKeyObjectSetModulus, RsaKeyObjectSetExponent, RsaKeyObjectGetModulus}
+use Rattle.jc_platform.specs.declared.key_methods.RsaKeysMethod.TheVariants.{RsaKeyObjectGetExponent, RsaPrivateCrtKeyObjectSetP, RsaPrivateCrtKeyObjectSetQ}
+use Rattle.jc_platform.specs.declared.key_methods.RsaKeysMethod.TheVariants.{RsaPrivateCrtKeyObjectSetDp1, RsaPrivateCrtKeyObjectSetDq1, RsaPrivateCrtKeyObjectSetPq}
+use Rattle.jc_platform.specs.declared.key_methods.RsaKeysMethod.TheVariants.{RsaPrivateCrtKeyObjectGetP, RsaPrivateCrtKeyObjectGetQ, RsaPrivateCrtKeyObjectGetDp1}
+use Rattle.jc_platform.specs.declared.key_methods.RsaKeysMethod.TheVariants.{RsaPrivateCrtKeyObjectGetDq1, RsaPrivateCrtKeyObjectGetPq}
 use Rattle.jc_linker.specs.Values.{Packages}
 use Rattle.jc_world.specs.NativeCalls.{NativeProgram}
 use Rattle.jc_api.specs.Forms.{CallAnswer, reading_call}

@@ -9,7 +9,7 @@ use crate::key_parts::KeyPart;
 use jc_frames::Cell;
 use jc_linker::linked::Linked;
 use jc_memory::Memory;
-use jc_platform::names::RsaKeysMethod;
+use jc_platform::key_methods::RsaKeysMethod;
 use jc_words::WordStore;
 use jc_world::{NativeResult, StepExit};
 

@@ -3,8 +3,8 @@ use Rattle.std.proofs.Common.{ℕ, List, refl, subst, arith}
 use Rattle.jc_memory.specs.State.{MemoryState, Effect}
 use Rattle.jc_platform.specs.Names.{key_pairs_rows}
 use Rattle.jc_platform.specs.Signatures.{sets_receiver}
-use Rattle.jc_platform.specs.declared.names.KeyPairsMethod.{KeyPairsMethod}
-use Rattle.jc_platform.specs.declared.names.KeyPairsMethod.TheVariants as pairs
+use Rattle.jc_platform.specs.declared.key_methods.KeyPairsMethod.{KeyPairsMethod}
+use Rattle.jc_platform.specs.declared.key_methods.KeyPairsMethod.TheVariants as pairs
 use Rattle.jc_platform.specs.declared.names.PlatformClass.TheVariants.{KeyPair}
 use Rattle.jc_platform.specs.declared.names.PlatformMethod.TheVariants as rooms
 use Rattle.jc_linker.specs.Values.{Packages}

@@ -2,10 +2,10 @@
 use Rattle.std.specs.Prelude.{List}
 use Rattle.jc_frames.specs.declared.cell.Cell.{Cell}
 use Rattle.jc_memory.specs.State.{MemoryState}
-use Rattle.jc_platform.specs.declared.names.KeyPairsMethod.{KeyPairsMethod}
-use Rattle.jc_platform.specs.declared.names.KeyPairsMethod.TheVariants.{KeyPairInit, KeyPairInitOfKeys, KeyPairGenKeyPair, KeyPairGetPublic, KeyPairGetPrivate}
-use Rattle.jc_platform.specs.declared.names.KeyPairsMethod.TheVariants.{KeyAgreementGetInstance, KeyAgreementInit, KeyAgreementGenerateSecret}
-use Rattle.jc_platform.specs.declared.names.KeyPairsMethod.TheVariants.{KeyAgreementGetAlgorithm}
+use Rattle.jc_platform.specs.declared.key_methods.KeyPairsMethod.{KeyPairsMethod}
+use Rattle.jc_platform.specs.declared.key_methods.KeyPairsMethod.TheVariants.{KeyPairInit, KeyPairInitOfKeys, KeyPairGenKeyPair, KeyPairGetPublic, KeyPairGetPrivate}
+use Rattle.jc_platform.specs.declared.key_methods.KeyPairsMethod.TheVariants.{KeyAgreementGetInstance, KeyAgreementInit, KeyAgreementGenerateSecret}
+use Rattle.jc_platform.specs.declared.key_methods.KeyPairsMethod.TheVariants.{KeyAgreementGetAlgorithm}
 use Rattle.jc_platform.specs.declared.names.PlatformClass.TheVariants as class
 use Rattle.jc_linker.specs.Values.{Packages}
 use Rattle.jc_world.specs.NativeCalls.{NativeProgram}

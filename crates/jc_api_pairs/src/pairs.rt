@@ -14,7 +14,8 @@ use jc_api::kept_reference;
 use jc_frames::Cell;
 use jc_linker::linked::Linked;
 use jc_memory::Memory;
-use jc_platform::names::{KeyPairsMethod, PlatformClass};
+use jc_platform::key_methods::KeyPairsMethod;
+use jc_platform::names::PlatformClass;
 use jc_words::WordStore;
 use jc_world::{NativeResult, StepExit};
 

@@ -38,7 +38,7 @@ use Rattle.jc_world.specs.Objects.{object_at, some_or_fault, check_or_fault, is_
 use Rattle.jc_api.specs.Kinds.{is_present_and}
 use Rattle.jc_instructions.specs.declared.invoke.MethodCall.{MethodCall}
 use Rattle.jc_instructions.specs.declared.invoke.SelectedCall.{SelectedCall}
-use Rattle.jc_instructions.specs.declared.invoke.CodeMethod.{CodeMethod}
+use Rattle.jc_instructions.specs.declared.known_calls.CodeMethod.{CodeMethod}
 use Rattle.jc_instructions.specs.declared.enter.Callee.{Callee}
 use Rattle.jc_instructions.specs.Parameters.{fits}
 use Rattle.jc_platform.specs.Signatures.{argument_cells, is_constructor}

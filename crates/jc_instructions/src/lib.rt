@@ -11,6 +11,7 @@ mod field_names;
 mod field_ops;
 mod fields;
 pub mod invoke;
+pub mod known_calls;
 mod known_values;
 pub mod method_component;
 pub mod method_return;

@@ -14,8 +14,9 @@ use crate::natives::call_native;
 use jc_frames::instr::InvokeOp;
 use jc_frames::{CallKind, Frames, Outcome, header_at};
 use jc_instructions::enter::{CallSite, Callee, enter};
-use jc_instructions::invoke::{
-    CodeCall, SelectedCall, method_of_platform, select_code, select_interface_code, select_method,
+use jc_instructions::invoke::{SelectedCall, select_method};
+use jc_instructions::known_calls::{
+    CodeCall, method_of_platform, select_code, select_interface_code,
 };
 use jc_instructions::method_component::method_component_of;
 use jc_instructions::server_call::call_server;

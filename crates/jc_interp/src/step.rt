@@ -19,7 +19,8 @@ use jc_instructions::method_component::method_component_of;
 use jc_instructions::method_return::return_to_caller;
 use jc_instructions::throw::{athrow, throw};
 use jc_instructions::{
-    array_instruction, array_load, array_store, checkcast, field_instruction, instanceof, new_instance,
+    array_instruction, array_load, array_store, checkcast, field_instruction, instanceof,
+    new_instance,
 };
 use jc_linker::linked::Linked;
 use jc_memory::Memory;

@@ -26,11 +26,11 @@ use Rattle.jc_platform.specs.declared.names.EnginesMethod.TheVariants.{MessageDi
 use Rattle.jc_platform.specs.declared.names.KeysMethod.TheVariants.{KeyBuilderBuildKey}
 use Rattle.jc_platform.specs.declared.names.KeyInterfacesMethod.TheVariants.{KeyClearKey}
 use Rattle.jc_platform.specs.declared.names.CiphersMethod.TheVariants.{CipherGetInstance}
-use Rattle.jc_platform.specs.declared.names.RsaKeysMethod.TheVariants.{RsaKeyObjectSetModulus}
-use Rattle.jc_platform.specs.declared.names.EcKeysMethod.TheVariants.{EcKeyObjectSetFieldFp}
-use Rattle.jc_platform.specs.declared.names.RsaInterfacesMethod.TheVariants.{PrivateKeyClearKey}
-use Rattle.jc_platform.specs.declared.names.EcInterfacesMethod.TheVariants.{EcKeySetFieldFp}
-use Rattle.jc_platform.specs.declared.names.KeyPairsMethod.TheVariants.{KeyPairInit}
+use Rattle.jc_platform.specs.declared.key_methods.RsaKeysMethod.TheVariants.{RsaKeyObjectSetModulus}
+use Rattle.jc_platform.specs.declared.key_methods.EcKeysMethod.TheVariants.{EcKeyObjectSetFieldFp}
+use Rattle.jc_platform.specs.declared.key_methods.RsaInterfacesMethod.TheVariants.{PrivateKeyClearKey}
+use Rattle.jc_platform.specs.declared.key_methods.EcInterfacesMethod.TheVariants.{EcKeySetFieldFp}
+use Rattle.jc_platform.specs.declared.key_methods.KeyPairsMethod.TheVariants.{KeyPairInit}
 use Rattle.jc_platform.specs.NamePlaces.{class_of, entry_of_class, entry_of_method, home_of, kind_of_method, name_of_method}
 use Rattle.jc_platform.specs.Hierarchy.{is_exception_form, is_interface_form}
 use Rattle.jc_platform.specs.Names.{MethodEntry, classes, methods, no_method}

@@ -21,11 +21,11 @@ use Rattle.jc_platform.specs.declared.names.EnginesMethod.TheVariants.{MessageDi
 use Rattle.jc_platform.specs.declared.names.KeysMethod.TheVariants.{KeyBuilderBuildKey}
 use Rattle.jc_platform.specs.declared.names.KeyInterfacesMethod.TheVariants.{KeyClearKey}
 use Rattle.jc_platform.specs.declared.names.CiphersMethod.TheVariants.{CipherGetInstance}
-use Rattle.jc_platform.specs.declared.names.RsaKeysMethod.TheVariants.{RsaKeyObjectSetModulus}
-use Rattle.jc_platform.specs.declared.names.EcKeysMethod.TheVariants.{EcKeyObjectSetFieldFp}
-use Rattle.jc_platform.specs.declared.names.RsaInterfacesMethod.TheVariants.{PrivateKeyClearKey}
-use Rattle.jc_platform.specs.declared.names.EcInterfacesMethod.TheVariants.{EcKeySetFieldFp}
-use Rattle.jc_platform.specs.declared.names.KeyPairsMethod.TheVariants.{KeyPairInit}
+use Rattle.jc_platform.specs.declared.key_methods.RsaKeysMethod.TheVariants.{RsaKeyObjectSetModulus}
+use Rattle.jc_platform.specs.declared.key_methods.EcKeysMethod.TheVariants.{EcKeyObjectSetFieldFp}
+use Rattle.jc_platform.specs.declared.key_methods.RsaInterfacesMethod.TheVariants.{PrivateKeyClearKey}
+use Rattle.jc_platform.specs.declared.key_methods.EcInterfacesMethod.TheVariants.{EcKeySetFieldFp}
+use Rattle.jc_platform.specs.declared.key_methods.KeyPairsMethod.TheVariants.{KeyPairInit}
 use Rattle.jc_platform.specs.Names.{classes, methods, packages}
 use Rattle.jc_platform.specs.Names.{objects_rows, exceptions_rows, utilities_rows, system_rows, aids_rows, pins_rows, applets_rows, apdus_rows, events_rows, engines_rows}
 use Rattle.jc_platform.specs.Names.{keys_rows, key_interfaces_rows, ciphers_rows}

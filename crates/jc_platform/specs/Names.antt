@@ -80,46 +80,46 @@ use Rattle.jc_platform.specs.declared.names.CiphersMethod.TheVariants.{Signature
 use Rattle.jc_platform.specs.declared.names.CiphersMethod.TheVariants.{SignatureUpdate, SignatureSign, SignatureVerify, SignatureGetAlgorithm}
 use Rattle.jc_platform.specs.declared.names.CiphersMethod.TheVariants.{SignatureGetMessageDigestAlgorithm, SignatureGetCipherAlgorithm}
 use Rattle.jc_platform.specs.declared.names.CiphersMethod.TheVariants.{SignatureGetPaddingAlgorithm, SignatureGetLength}
-use Rattle.jc_platform.specs.declared.names.RsaKeysMethod.TheVariants.{RsaKeyObjectSetModulus, RsaKeyObjectSetExponent, RsaKeyObjectGetModulus}
-use Rattle.jc_platform.specs.declared.names.RsaKeysMethod.TheVariants.{RsaKeyObjectGetExponent, RsaPrivateCrtKeyObjectSetP, RsaPrivateCrtKeyObjectSetQ}
-use Rattle.jc_platform.specs.declared.names.RsaKeysMethod.TheVariants.{RsaPrivateCrtKeyObjectSetDp1, RsaPrivateCrtKeyObjectSetDq1, RsaPrivateCrtKeyObjectSetPq}
-use Rattle.jc_platform.specs.declared.names.RsaKeysMethod.TheVariants.{RsaPrivateCrtKeyObjectGetP, RsaPrivateCrtKeyObjectGetQ, RsaPrivateCrtKeyObjectGetDp1}
-use Rattle.jc_platform.specs.declared.names.RsaKeysMethod.TheVariants.{RsaPrivateCrtKeyObjectGetDq1, RsaPrivateCrtKeyObjectGetPq}
-use Rattle.jc_platform.specs.declared.names.EcKeysMethod.TheVariants.{EcKeyObjectSetFieldFp, EcKeyObjectSetFieldF2m, EcKeyObjectSetFieldF2mOfThree}
-use Rattle.jc_platform.specs.declared.names.EcKeysMethod.TheVariants.{EcKeyObjectSetA, EcKeyObjectSetB, EcKeyObjectSetG, EcKeyObjectSetR, EcKeyObjectSetK}
-use Rattle.jc_platform.specs.declared.names.EcKeysMethod.TheVariants.{EcKeyObjectGetField, EcKeyObjectGetA, EcKeyObjectGetB, EcKeyObjectGetG, EcKeyObjectGetR}
-use Rattle.jc_platform.specs.declared.names.EcKeysMethod.TheVariants.{EcKeyObjectGetK, EcKeyObjectCopyDomainParametersFrom, EcPublicKeyObjectSetW}
-use Rattle.jc_platform.specs.declared.names.EcKeysMethod.TheVariants.{EcPublicKeyObjectGetW, EcPrivateKeyObjectSetS, EcPrivateKeyObjectGetS}
-use Rattle.jc_platform.specs.declared.names.RsaInterfacesMethod.TheVariants.{PrivateKeyClearKey, PrivateKeyGetSize, PrivateKeyGetType, PrivateKeyIsInitialized}
-use Rattle.jc_platform.specs.declared.names.RsaInterfacesMethod.TheVariants.{PublicKeyClearKey, PublicKeyGetSize, PublicKeyGetType, PublicKeyIsInitialized}
-use Rattle.jc_platform.specs.declared.names.RsaInterfacesMethod.TheVariants.{RsaPublicKeyClearKey, RsaPublicKeyGetSize, RsaPublicKeyGetType}
-use Rattle.jc_platform.specs.declared.names.RsaInterfacesMethod.TheVariants.{RsaPublicKeyIsInitialized, RsaPublicKeySetModulus, RsaPublicKeySetExponent}
-use Rattle.jc_platform.specs.declared.names.RsaInterfacesMethod.TheVariants.{RsaPublicKeyGetModulus, RsaPublicKeyGetExponent, RsaPrivateKeyClearKey}
-use Rattle.jc_platform.specs.declared.names.RsaInterfacesMethod.TheVariants.{RsaPrivateKeyGetSize, RsaPrivateKeyGetType, RsaPrivateKeyIsInitialized}
-use Rattle.jc_platform.specs.declared.names.RsaInterfacesMethod.TheVariants.{RsaPrivateKeySetModulus, RsaPrivateKeySetExponent, RsaPrivateKeyGetModulus}
-use Rattle.jc_platform.specs.declared.names.RsaInterfacesMethod.TheVariants.{RsaPrivateKeyGetExponent, RsaPrivateCrtKeyClearKey, RsaPrivateCrtKeyGetSize}
-use Rattle.jc_platform.specs.declared.names.RsaInterfacesMethod.TheVariants.{RsaPrivateCrtKeyGetType, RsaPrivateCrtKeyIsInitialized, RsaPrivateCrtKeySetP}
-use Rattle.jc_platform.specs.declared.names.RsaInterfacesMethod.TheVariants.{RsaPrivateCrtKeySetQ, RsaPrivateCrtKeySetDp1, RsaPrivateCrtKeySetDq1}
-use Rattle.jc_platform.specs.declared.names.RsaInterfacesMethod.TheVariants.{RsaPrivateCrtKeySetPq, RsaPrivateCrtKeyGetP, RsaPrivateCrtKeyGetQ}
-use Rattle.jc_platform.specs.declared.names.RsaInterfacesMethod.TheVariants.{RsaPrivateCrtKeyGetDp1, RsaPrivateCrtKeyGetDq1, RsaPrivateCrtKeyGetPq}
-use Rattle.jc_platform.specs.declared.names.EcInterfacesMethod.TheVariants.{EcKeySetFieldFp, EcKeySetFieldF2m, EcKeySetFieldF2mOfThree, EcKeySetA, EcKeySetB}
-use Rattle.jc_platform.specs.declared.names.EcInterfacesMethod.TheVariants.{EcKeySetG, EcKeySetR, EcKeySetK, EcKeyGetField, EcKeyGetA, EcKeyGetB, EcKeyGetG}
-use Rattle.jc_platform.specs.declared.names.EcInterfacesMethod.TheVariants.{EcKeyGetR, EcKeyGetK, EcKeyCopyDomainParametersFrom, EcPublicKeyClearKey}
-use Rattle.jc_platform.specs.declared.names.EcInterfacesMethod.TheVariants.{EcPublicKeyGetSize, EcPublicKeyGetType, EcPublicKeyIsInitialized}
-use Rattle.jc_platform.specs.declared.names.EcInterfacesMethod.TheVariants.{EcPublicKeySetFieldFp, EcPublicKeySetFieldF2m, EcPublicKeySetFieldF2mOfThree}
-use Rattle.jc_platform.specs.declared.names.EcInterfacesMethod.TheVariants.{EcPublicKeySetA, EcPublicKeySetB, EcPublicKeySetG, EcPublicKeySetR, EcPublicKeySetK}
-use Rattle.jc_platform.specs.declared.names.EcInterfacesMethod.TheVariants.{EcPublicKeyGetField, EcPublicKeyGetA, EcPublicKeyGetB, EcPublicKeyGetG}
-use Rattle.jc_platform.specs.declared.names.EcInterfacesMethod.TheVariants.{EcPublicKeyGetR, EcPublicKeyGetK, EcPublicKeyCopyDomainParametersFrom}
-use Rattle.jc_platform.specs.declared.names.EcInterfacesMethod.TheVariants.{EcPublicKeySetW, EcPublicKeyGetW, EcPrivateKeyClearKey, EcPrivateKeyGetSize}
-use Rattle.jc_platform.specs.declared.names.EcInterfacesMethod.TheVariants.{EcPrivateKeyGetType, EcPrivateKeyIsInitialized, EcPrivateKeySetFieldFp}
-use Rattle.jc_platform.specs.declared.names.EcInterfacesMethod.TheVariants.{EcPrivateKeySetFieldF2m, EcPrivateKeySetFieldF2mOfThree, EcPrivateKeySetA}
-use Rattle.jc_platform.specs.declared.names.EcInterfacesMethod.TheVariants.{EcPrivateKeySetB, EcPrivateKeySetG, EcPrivateKeySetR, EcPrivateKeySetK}
-use Rattle.jc_platform.specs.declared.names.EcInterfacesMethod.TheVariants.{EcPrivateKeyGetField, EcPrivateKeyGetA, EcPrivateKeyGetB, EcPrivateKeyGetG}
-use Rattle.jc_platform.specs.declared.names.EcInterfacesMethod.TheVariants.{EcPrivateKeyGetR, EcPrivateKeyGetK, EcPrivateKeyCopyDomainParametersFrom}
-use Rattle.jc_platform.specs.declared.names.EcInterfacesMethod.TheVariants.{EcPrivateKeySetS, EcPrivateKeyGetS}
-use Rattle.jc_platform.specs.declared.names.KeyPairsMethod.TheVariants.{KeyPairInit, KeyPairInitOfKeys, KeyPairGenKeyPair, KeyPairGetPublic, KeyPairGetPrivate}
-use Rattle.jc_platform.specs.declared.names.KeyPairsMethod.TheVariants.{KeyAgreementGetInstance, KeyAgreementInit, KeyAgreementGenerateSecret}
-use Rattle.jc_platform.specs.declared.names.KeyPairsMethod.TheVariants.{KeyAgreementGetAlgorithm}
+use Rattle.jc_platform.specs.declared.key_methods.RsaKeysMethod.TheVariants.{RsaKeyObjectSetModulus, RsaKeyObjectSetExponent, RsaKeyObjectGetModulus}
+use Rattle.jc_platform.specs.declared.key_methods.RsaKeysMethod.TheVariants.{RsaKeyObjectGetExponent, RsaPrivateCrtKeyObjectSetP, RsaPrivateCrtKeyObjectSetQ}
+use Rattle.jc_platform.specs.declared.key_methods.RsaKeysMethod.TheVariants.{RsaPrivateCrtKeyObjectSetDp1, RsaPrivateCrtKeyObjectSetDq1, RsaPrivateCrtKeyObjectSetPq}
+use Rattle.jc_platform.specs.declared.key_methods.RsaKeysMethod.TheVariants.{RsaPrivateCrtKeyObjectGetP, RsaPrivateCrtKeyObjectGetQ, RsaPrivateCrtKeyObjectGetDp1}
+use Rattle.jc_platform.specs.declared.key_methods.RsaKeysMethod.TheVariants.{RsaPrivateCrtKeyObjectGetDq1, RsaPrivateCrtKeyObjectGetPq}
+use Rattle.jc_platform.specs.declared.key_methods.EcKeysMethod.TheVariants.{EcKeyObjectSetFieldFp, EcKeyObjectSetFieldF2m, EcKeyObjectSetFieldF2mOfThree}
+use Rattle.jc_platform.specs.declared.key_methods.EcKeysMethod.TheVariants.{EcKeyObjectSetA, EcKeyObjectSetB, EcKeyObjectSetG, EcKeyObjectSetR, EcKeyObjectSetK}
+use Rattle.jc_platform.specs.declared.key_methods.EcKeysMethod.TheVariants.{EcKeyObjectGetField, EcKeyObjectGetA, EcKeyObjectGetB, EcKeyObjectGetG, EcKeyObjectGetR}
+use Rattle.jc_platform.specs.declared.key_methods.EcKeysMethod.TheVariants.{EcKeyObjectGetK, EcKeyObjectCopyDomainParametersFrom, EcPublicKeyObjectSetW}
+use Rattle.jc_platform.specs.declared.key_methods.EcKeysMethod.TheVariants.{EcPublicKeyObjectGetW, EcPrivateKeyObjectSetS, EcPrivateKeyObjectGetS}
+use Rattle.jc_platform.specs.declared.key_methods.RsaInterfacesMethod.TheVariants.{PrivateKeyClearKey, PrivateKeyGetSize, PrivateKeyGetType, PrivateKeyIsInitialized}
+use Rattle.jc_platform.specs.declared.key_methods.RsaInterfacesMethod.TheVariants.{PublicKeyClearKey, PublicKeyGetSize, PublicKeyGetType, PublicKeyIsInitialized}
+use Rattle.jc_platform.specs.declared.key_methods.RsaInterfacesMethod.TheVariants.{RsaPublicKeyClearKey, RsaPublicKeyGetSize, RsaPublicKeyGetType}
+use Rattle.jc_platform.specs.declared.key_methods.RsaInterfacesMethod.TheVariants.{RsaPublicKeyIsInitialized, RsaPublicKeySetModulus, RsaPublicKeySetExponent}
+use Rattle.jc_platform.specs.declared.key_methods.RsaInterfacesMethod.TheVariants.{RsaPublicKeyGetModulus, RsaPublicKeyGetExponent, RsaPrivateKeyClearKey}
+use Rattle.jc_platform.specs.declared.key_methods.RsaInterfacesMethod.TheVariants.{RsaPrivateKeyGetSize, RsaPrivateKeyGetType, RsaPrivateKeyIsInitialized}
+use Rattle.jc_platform.specs.declared.key_methods.RsaInterfacesMethod.TheVariants.{RsaPrivateKeySetModulus, RsaPrivateKeySetExponent, RsaPrivateKeyGetModulus}
+use Rattle.jc_platform.specs.declared.key_methods.RsaInterfacesMethod.TheVariants.{RsaPrivateKeyGetExponent, RsaPrivateCrtKeyClearKey, RsaPrivateCrtKeyGetSize}
+use Rattle.jc_platform.specs.declared.key_methods.RsaInterfacesMethod.TheVariants.{RsaPrivateCrtKeyGetType, RsaPrivateCrtKeyIsInitialized, RsaPrivateCrtKeySetP}
+use Rattle.jc_platform.specs.declared.key_methods.RsaInterfacesMethod.TheVariants.{RsaPrivateCrtKeySetQ, RsaPrivateCrtKeySetDp1, RsaPrivateCrtKeySetDq1}
+use Rattle.jc_platform.specs.declared.key_methods.RsaInterfacesMethod.TheVariants.{RsaPrivateCrtKeySetPq, RsaPrivateCrtKeyGetP, RsaPrivateCrtKeyGetQ}
+use Rattle.jc_platform.specs.declared.key_methods.RsaInterfacesMethod.TheVariants.{RsaPrivateCrtKeyGetDp1, RsaPrivateCrtKeyGetDq1, RsaPrivateCrtKeyGetPq}
+use Rattle.jc_platform.specs.declared.key_methods.EcInterfacesMethod.TheVariants.{EcKeySetFieldFp, EcKeySetFieldF2m, EcKeySetFieldF2mOfThree, EcKeySetA, EcKeySetB}
+use Rattle.jc_platform.specs.declared.key_methods.EcInterfacesMethod.TheVariants.{EcKeySetG, EcKeySetR, EcKeySetK, EcKeyGetField, EcKeyGetA, EcKeyGetB, EcKeyGetG}
+use Rattle.jc_platform.specs.declared.key_methods.EcInterfacesMethod.TheVariants.{EcKeyGetR, EcKeyGetK, EcKeyCopyDomainParametersFrom, EcPublicKeyClearKey}
+use Rattle.jc_platform.specs.declared.key_methods.EcInterfacesMethod.TheVariants.{EcPublicKeyGetSize, EcPublicKeyGetType, EcPublicKeyIsInitialized}
+use Rattle.jc_platform.specs.declared.key_methods.EcInterfacesMethod.TheVariants.{EcPublicKeySetFieldFp, EcPublicKeySetFieldF2m, EcPublicKeySetFieldF2mOfThree}
+use Rattle.jc_platform.specs.declared.key_methods.EcInterfacesMethod.TheVariants.{EcPublicKeySetA, EcPublicKeySetB, EcPublicKeySetG, EcPublicKeySetR, EcPublicKeySetK}
+use Rattle.jc_platform.specs.declared.key_methods.EcInterfacesMethod.TheVariants.{EcPublicKeyGetField, EcPublicKeyGetA, EcPublicKeyGetB, EcPublicKeyGetG}
+use Rattle.jc_platform.specs.declared.key_methods.EcInterfacesMethod.TheVariants.{EcPublicKeyGetR, EcPublicKeyGetK, EcPublicKeyCopyDomainParametersFrom}
+use Rattle.jc_platform.specs.declared.key_methods.EcInterfacesMethod.TheVariants.{EcPublicKeySetW, EcPublicKeyGetW, EcPrivateKeyClearKey, EcPrivateKeyGetSize}
+use Rattle.jc_platform.specs.declared.key_methods.EcInterfacesMethod.TheVariants.{EcPrivateKeyGetType, EcPrivateKeyIsInitialized, EcPrivateKeySetFieldFp}
+use Rattle.jc_platform.specs.declared.key_methods.EcInterfacesMethod.TheVariants.{EcPrivateKeySetFieldF2m, EcPrivateKeySetFieldF2mOfThree, EcPrivateKeySetA}
+use Rattle.jc_platform.specs.declared.key_methods.EcInterfacesMethod.TheVariants.{EcPrivateKeySetB, EcPrivateKeySetG, EcPrivateKeySetR, EcPrivateKeySetK}
+use Rattle.jc_platform.specs.declared.key_methods.EcInterfacesMethod.TheVariants.{EcPrivateKeyGetField, EcPrivateKeyGetA, EcPrivateKeyGetB, EcPrivateKeyGetG}
+use Rattle.jc_platform.specs.declared.key_methods.EcInterfacesMethod.TheVariants.{EcPrivateKeyGetR, EcPrivateKeyGetK, EcPrivateKeyCopyDomainParametersFrom}
+use Rattle.jc_platform.specs.declared.key_methods.EcInterfacesMethod.TheVariants.{EcPrivateKeySetS, EcPrivateKeyGetS}
+use Rattle.jc_platform.specs.declared.key_methods.KeyPairsMethod.TheVariants.{KeyPairInit, KeyPairInitOfKeys, KeyPairGenKeyPair, KeyPairGetPublic, KeyPairGetPrivate}
+use Rattle.jc_platform.specs.declared.key_methods.KeyPairsMethod.TheVariants.{KeyAgreementGetInstance, KeyAgreementInit, KeyAgreementGenerateSecret}
+use Rattle.jc_platform.specs.declared.key_methods.KeyPairsMethod.TheVariants.{KeyAgreementGetAlgorithm}
 use Rattle.jc_platform.specs.declared.kinds.ClassForm.{ClassForm}
 use Rattle.jc_platform.specs.declared.kinds.ClassForm.TheVariants as form
 use Rattle.jc_platform.specs.declared.kinds.CellKind.{CellKind}

@@ -5,6 +5,7 @@ mod entries;
 pub mod example;
 pub mod fault;
 pub mod hierarchy;
+pub mod key_methods;
 pub mod kinds;
 pub mod laws;
 pub mod lookup;

@@ -4,8 +4,12 @@ ghost use Rattle.std.specs.Prelude.{◌≡◌, ◌<◌};
 ghost use Rattle.jc_platform.specs.Numbers.{class_number, kind_number, method_number, package_number, same_class, same_kind, same_package};
 ghost use Rattle.jc_platform.specs.Numbers.{objects_number, exceptions_number, utilities_number, system_number, aids_number, pins_number, applets_number, apdus_number, events_number};
 ghost use Rattle.jc_platform.specs.Numbers.{engines_number, keys_number, key_interfaces_number, ciphers_number, is_needed_package};
-ghost use Rattle.jc_platform.specs.Numbers.{rsa_keys_number, ec_keys_number, rsa_interfaces_number, ec_interfaces_number, key_pairs_number};
 ghost use Rattle.jc_platform.specs.Rows.{largest_token};
+
+use crate::key_methods::{
+    EC_INTERFACES_COUNT, EC_KEYS_COUNT, EcInterfacesMethod, EcKeysMethod, KEY_PAIRS_COUNT,
+    KeyPairsMethod, RSA_INTERFACES_COUNT, RSA_KEYS_COUNT, RsaInterfacesMethod, RsaKeysMethod,
+};
 
 /// A package of the platform.
 #[derive(Clone, Copy, PartialEq, Eq)]
@@ -361,168 +365,6 @@ pub enum CiphersMethod {
     SignatureGetLength,
 }
 
-/// A method of a class of RSA keys.
-#[derive(Clone, Copy)]
-pub enum RsaKeysMethod {
-    RsaKeyObjectSetModulus,
-    RsaKeyObjectSetExponent,
-    RsaKeyObjectGetModulus,
-    RsaKeyObjectGetExponent,
-    RsaPrivateCrtKeyObjectSetP,
-    RsaPrivateCrtKeyObjectSetQ,
-    RsaPrivateCrtKeyObjectSetDp1,
-    RsaPrivateCrtKeyObjectSetDq1,
-    RsaPrivateCrtKeyObjectSetPq,
-    RsaPrivateCrtKeyObjectGetP,
-    RsaPrivateCrtKeyObjectGetQ,
-    RsaPrivateCrtKeyObjectGetDp1,
-    RsaPrivateCrtKeyObjectGetDq1,
-    RsaPrivateCrtKeyObjectGetPq,
-}
-
-/// A method of a class of keys on elliptic curves.
-#[derive(Clone, Copy)]
-pub enum EcKeysMethod {
-    EcKeyObjectSetFieldFp,
-    EcKeyObjectSetFieldF2m,
-    EcKeyObjectSetFieldF2mOfThree,
-    EcKeyObjectSetA,
-    EcKeyObjectSetB,
-    EcKeyObjectSetG,
-    EcKeyObjectSetR,
-    EcKeyObjectSetK,
-    EcKeyObjectGetField,
-    EcKeyObjectGetA,
-    EcKeyObjectGetB,
-    EcKeyObjectGetG,
-    EcKeyObjectGetR,
-    EcKeyObjectGetK,
-    EcKeyObjectCopyDomainParametersFrom,
-    EcPublicKeyObjectSetW,
-    EcPublicKeyObjectGetW,
-    EcPrivateKeyObjectSetS,
-    EcPrivateKeyObjectGetS,
-}
-
-/// A method of an interface of public, private or RSA keys.
-#[derive(Clone, Copy)]
-pub enum RsaInterfacesMethod {
-    PrivateKeyClearKey,
-    PrivateKeyGetSize,
-    PrivateKeyGetType,
-    PrivateKeyIsInitialized,
-    PublicKeyClearKey,
-    PublicKeyGetSize,
-    PublicKeyGetType,
-    PublicKeyIsInitialized,
-    RsaPublicKeyClearKey,
-    RsaPublicKeyGetSize,
-    RsaPublicKeyGetType,
-    RsaPublicKeyIsInitialized,
-    RsaPublicKeySetModulus,
-    RsaPublicKeySetExponent,
-    RsaPublicKeyGetModulus,
-    RsaPublicKeyGetExponent,
-    RsaPrivateKeyClearKey,
-    RsaPrivateKeyGetSize,
-    RsaPrivateKeyGetType,
-    RsaPrivateKeyIsInitialized,
-    RsaPrivateKeySetModulus,
-    RsaPrivateKeySetExponent,
-    RsaPrivateKeyGetModulus,
-    RsaPrivateKeyGetExponent,
-    RsaPrivateCrtKeyClearKey,
-    RsaPrivateCrtKeyGetSize,
-    RsaPrivateCrtKeyGetType,
-    RsaPrivateCrtKeyIsInitialized,
-    RsaPrivateCrtKeySetP,
-    RsaPrivateCrtKeySetQ,
-    RsaPrivateCrtKeySetDp1,
-    RsaPrivateCrtKeySetDq1,
-    RsaPrivateCrtKeySetPq,
-    RsaPrivateCrtKeyGetP,
-    RsaPrivateCrtKeyGetQ,
-    RsaPrivateCrtKeyGetDp1,
-    RsaPrivateCrtKeyGetDq1,
-    RsaPrivateCrtKeyGetPq,
-}
-
-/// A method of an interface of keys on elliptic curves.
-#[derive(Clone, Copy)]
-pub enum EcInterfacesMethod {
-    EcKeySetFieldFp,
-    EcKeySetFieldF2m,
-    EcKeySetFieldF2mOfThree,
-    EcKeySetA,
-    EcKeySetB,
-    EcKeySetG,
-    EcKeySetR,
-    EcKeySetK,
-    EcKeyGetField,
-    EcKeyGetA,
-    EcKeyGetB,
-    EcKeyGetG,
-    EcKeyGetR,
-    EcKeyGetK,
-    EcKeyCopyDomainParametersFrom,
-    EcPublicKeyClearKey,
-    EcPublicKeyGetSize,
-    EcPublicKeyGetType,
-    EcPublicKeyIsInitialized,
-    EcPublicKeySetFieldFp,
-    EcPublicKeySetFieldF2m,
-    EcPublicKeySetFieldF2mOfThree,
-    EcPublicKeySetA,
-    EcPublicKeySetB,
-    EcPublicKeySetG,
-    EcPublicKeySetR,
-    EcPublicKeySetK,
-    EcPublicKeyGetField,
-    EcPublicKeyGetA,
-    EcPublicKeyGetB,
-    EcPublicKeyGetG,
-    EcPublicKeyGetR,
-    EcPublicKeyGetK,
-    EcPublicKeyCopyDomainParametersFrom,
-    EcPublicKeySetW,
-    EcPublicKeyGetW,
-    EcPrivateKeyClearKey,
-    EcPrivateKeyGetSize,
-    EcPrivateKeyGetType,
-    EcPrivateKeyIsInitialized,
-    EcPrivateKeySetFieldFp,
-    EcPrivateKeySetFieldF2m,
-    EcPrivateKeySetFieldF2mOfThree,
-    EcPrivateKeySetA,
-    EcPrivateKeySetB,
-    EcPrivateKeySetG,
-    EcPrivateKeySetR,
-    EcPrivateKeySetK,
-    EcPrivateKeyGetField,
-    EcPrivateKeyGetA,
-    EcPrivateKeyGetB,
-    EcPrivateKeyGetG,
-    EcPrivateKeyGetR,
-    EcPrivateKeyGetK,
-    EcPrivateKeyCopyDomainParametersFrom,
-    EcPrivateKeySetS,
-    EcPrivateKeyGetS,
-}
-
-/// A method of `KeyPair` or `KeyAgreement`.
-#[derive(Clone, Copy)]
-pub enum KeyPairsMethod {
-    KeyPairInit,
-    KeyPairInitOfKeys,
-    KeyPairGenKeyPair,
-    KeyPairGetPublic,
-    KeyPairGetPrivate,
-    KeyAgreementGetInstance,
-    KeyAgreementInit,
-    KeyAgreementGenerateSecret,
-    KeyAgreementGetAlgorithm,
-}
-
 /// A method of the platform, by its room: an enum of some classes' methods. Each is named by its class and its name:
 /// `OwnerPinCheck` is `check` of `OwnerPIN`, and `ObjectInit` the constructor `<init>` of `Object`.
 #[derive(Clone, Copy)]
@@ -591,21 +433,6 @@ pub(crate) const KEY_INTERFACES_COUNT: usize = 26;
 
 /// How many methods the room `Ciphers` has.
 pub(crate) const CIPHERS_COUNT: usize = 21;
-
-/// How many methods the room `RsaKeys` has.
-pub(crate) const RSA_KEYS_COUNT: usize = 14;
-
-/// How many methods the room `EcKeys` has.
-pub(crate) const EC_KEYS_COUNT: usize = 19;
-
-/// How many methods the room `RsaInterfaces` has.
-pub(crate) const RSA_INTERFACES_COUNT: usize = 38;
-
-/// How many methods the room `EcInterfaces` has.
-pub(crate) const EC_INTERFACES_COUNT: usize = 57;
-
-/// How many methods the room `KeyPairs` has.
-pub(crate) const KEY_PAIRS_COUNT: usize = 9;
 
 const EXCEPTIONS_FIRST: usize = OBJECTS_COUNT;
 
@@ -816,56 +643,6 @@ impl CiphersMethod {
     pub(crate) const fn index(self) -> usize
         ensures place { result ≡ ciphers_number self }
         ensures bound { result < CIPHERS_COUNT }
-    {
-        self as usize
-    }
-}
-
-impl RsaKeysMethod {
-    /// Its place in its room.
-    pub(crate) const fn index(self) -> usize
-        ensures place { result ≡ rsa_keys_number self }
-        ensures bound { result < RSA_KEYS_COUNT }
-    {
-        self as usize
-    }
-}
-
-impl EcKeysMethod {
-    /// Its place in its room.
-    pub(crate) const fn index(self) -> usize
-        ensures place { result ≡ ec_keys_number self }
-        ensures bound { result < EC_KEYS_COUNT }
-    {
-        self as usize
-    }
-}
-
-impl RsaInterfacesMethod {
-    /// Its place in its room.
-    pub(crate) const fn index(self) -> usize
-        ensures place { result ≡ rsa_interfaces_number self }
-        ensures bound { result < RSA_INTERFACES_COUNT }
-    {
-        self as usize
-    }
-}
-
-impl EcInterfacesMethod {
-    /// Its place in its room.
-    pub(crate) const fn index(self) -> usize
-        ensures place { result ≡ ec_interfaces_number self }
-        ensures bound { result < EC_INTERFACES_COUNT }
-    {
-        self as usize
-    }
-}
-
-impl KeyPairsMethod {
-    /// Its place in its room.
-    pub(crate) const fn index(self) -> usize
-        ensures place { result ≡ key_pairs_number self }
-        ensures bound { result < KEY_PAIRS_COUNT }
     {
         self as usize
     }

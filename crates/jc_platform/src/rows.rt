@@ -1,15 +1,17 @@
 //! The rows: what is known of each package, class and method.
 
+use crate::key_methods::{
+    EC_INTERFACES_COUNT, EC_KEYS_COUNT, EcInterfacesMethod, EcKeysMethod, KEY_PAIRS_COUNT,
+    KeyPairsMethod, RSA_INTERFACES_COUNT, RSA_KEYS_COUNT, RsaInterfacesMethod, RsaKeysMethod,
+};
 use crate::kinds::{Answer, CellKind, ClassForm, ParameterKind, Receiver};
 use crate::names::{
     AIDS_COUNT, APDUS_COUNT, APPLETS_COUNT, AidsMethod, ApdusMethod, AppletsMethod, CIPHERS_COUNT,
-    CLASS_COUNT, CiphersMethod, EC_INTERFACES_COUNT, EC_KEYS_COUNT, ENGINES_COUNT, EVENTS_COUNT,
-    EXCEPTIONS_COUNT, EcInterfacesMethod, EcKeysMethod, EnginesMethod, EventsMethod,
-    ExceptionsMethod, KEY_INTERFACES_COUNT, KEY_PAIRS_COUNT, KEYS_COUNT, KeyInterfacesMethod,
-    KeyPairsMethod, KeysMethod, MethodKind, OBJECTS_COUNT, ObjectsMethod, PACKAGE_COUNT,
-    PINS_COUNT, PinsMethod, PlatformClass, PlatformMethod, PlatformPackage, RSA_INTERFACES_COUNT,
-    RSA_KEYS_COUNT, RsaInterfacesMethod, RsaKeysMethod, SYSTEM_COUNT, SystemMethod,
-    UTILITIES_COUNT, UtilitiesMethod,
+    CLASS_COUNT, CiphersMethod, ENGINES_COUNT, EVENTS_COUNT, EXCEPTIONS_COUNT, EnginesMethod,
+    EventsMethod, ExceptionsMethod, KEY_INTERFACES_COUNT, KEYS_COUNT, KeyInterfacesMethod,
+    KeysMethod, MethodKind, OBJECTS_COUNT, ObjectsMethod, PACKAGE_COUNT, PINS_COUNT, PinsMethod,
+    PlatformClass, PlatformMethod, PlatformPackage, SYSTEM_COUNT, SystemMethod, UTILITIES_COUNT,
+    UtilitiesMethod,
 };
 
 /// A package with the text of its AID, in upper case hexadecimal.
@@ -208,8 +210,7 @@ pub(crate) static PACKAGES: [PackageRow; PACKAGE_COUNT] = [
     },
 ];
 
-/// Every class, in the order of `PlatformClass`: package, class, name, superclass, interfaces, form, cells, whether code may
-/// make instances, and whether the runtime environment throws one of its own.
+/// Every class, in the order of `PlatformClass`: package, class, name, superclass, interfaces, form, cells, whether code may make instances, whether the runtime environment throws one of its own.
 pub(crate) static CLASSES: [ClassRow; CLASS_COUNT] = [
     class!(JavaLang Object b"Object" [] [] Object [] true false),
     class!(JavaLang Throwable b"Throwable" [Object] [] Exception [] true false),

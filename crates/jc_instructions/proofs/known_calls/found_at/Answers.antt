@@ -2,7 +2,7 @@ use Rattle.std.proofs.Common.{rules, ◌≡◌, refl}
 use Rattle.jc_linker.specs.declared.target.Method.TheVariants.{Native}
 use Rattle.jc_world.proofs.Below.{below_same}
 use Rattle.jc_instructions.proofs.Same.{method_itself}
-use Rattle.jc_instructions.proofs.invoke.found_at.Goals as goal
+use Rattle.jc_instructions.proofs.known_calls.found_at.Goals as goal
 
 pub returns-then-eq : goal.returns-then-eq
 returns-then-eq c =
