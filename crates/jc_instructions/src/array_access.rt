@@ -64,7 +64,8 @@ fn element_write<S: WordStore>(
     Ok(())
 }
 
-/// `aaload`, `baload`, `saload`: pushes the element with the index on top, of the array below it. It throws and faults as `array_instruction`.
+/// `aaload`, `baload`, `saload`: pushes the element with the index on top, of the array below it. Throws where the array is null, where the firewall
+/// refuses the access, and where the index lies outside; a code fault where the stack's cells have other kinds, and where the object is no such array.
 #[inline(always)]
 #[tactic(auto, unfolding(crate::specs::ArrayAccess::array_load))]
 pub fn array_load<S: WordStore>(
@@ -82,7 +83,8 @@ pub fn array_load<S: WordStore>(
     element_read(of_type, reference, index, frames, memory, linked)
 }
 
-/// `aastore`, `bastore`, `sastore`: pops a value into an element. It throws and faults as `array_instruction`.
+/// `aastore`, `bastore`, `sastore`: pops a value into an element. It throws and faults as `array_load`; it also throws where the firewall refuses the
+/// reference that is to be stored, where the object that is to be stored has another type, and where there is no room.
 #[inline(always)]
 #[tactic(auto, unfolding(crate::specs::ArrayAccess::array_store))]
 pub fn array_store<S: WordStore>(
@@ -101,10 +103,11 @@ pub fn array_store<S: WordStore>(
     element_write(of_type, reference, index, value, frames, memory, linked)
 }
 
-/// `arraylength`: pushes the number of elements of the array on top.
+/// `arraylength`: pushes the number of elements of the array on top. Throws where it is null, and where the firewall refuses the access; a code fault
+/// where the top cell is no reference, and where the object is no array.
 #[inline(always)]
 #[tactic(auto, unfolding(crate::specs::ArrayAccess::arraylength))]
-pub(crate) fn arraylength<S: WordStore>(
+pub fn arraylength<S: WordStore>(
     frames: &mut Frames,
     memory: &Memory<S>,
     linked: &Linked,

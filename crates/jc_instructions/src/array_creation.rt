@@ -53,9 +53,11 @@ fn make_array<S: WordStore>(
     push_new(array, frames, memory)
 }
 
-/// `newarray`: makes an array of booleans, bytes or shorts.
+/// `newarray`: makes an array of booleans, bytes or shorts. Throws where the length is negative, and where there is no space or no room; a code
+/// fault where the length is no short.
 #[tactic(auto, unfolding(crate::specs::ArrayCreation::newarray))]
-pub(crate) fn newarray<S: WordStore>(
+#[inline(never)]
+pub fn newarray<S: WordStore>(
     of_type: PrimitiveArray,
     frames: &mut Frames,
     memory: &mut Memory<S>,
@@ -68,9 +70,11 @@ pub(crate) fn newarray<S: WordStore>(
     make_array(kind_of(of_type), NO_CLASS, length, frames, memory)
 }
 
-/// `anewarray`: makes an array of references to instances of a class.
+/// `anewarray`: makes an array of references to instances of a class. It throws as `newarray`; a code fault where the length is no short, and where
+/// the pool's entry names no class.
 #[tactic(auto, unfolding(crate::specs::ArrayCreation::anewarray))]
-pub(crate) fn anewarray<S: WordStore>(
+#[inline(never)]
+pub fn anewarray<S: WordStore>(
     index: u16,
     frames: &mut Frames,
     memory: &mut Memory<S>,

@@ -4,7 +4,6 @@
 mod array_access;
 mod array_creation;
 mod array_elements;
-mod array_ops;
 pub mod catch;
 pub mod enter;
 mod field_names;
@@ -25,8 +24,8 @@ mod static_images;
 pub mod throw;
 mod type_checks;
 
-pub use array_access::{array_load, array_store};
-pub use array_ops::array_instruction;
+pub use array_access::{array_load, array_store, arraylength};
+pub use array_creation::{anewarray, newarray};
 pub use field_ops::field_instruction;
 pub use object_creation::new_instance;
 pub use type_checks::{checkcast, instanceof};

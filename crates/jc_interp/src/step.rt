@@ -1,10 +1,8 @@
 //! What is left of a step where frames alone do not go on, and the exception that it throws.
 ghost use Rattle.std.specs.Prelude.{◌≡◌, ◌<◌, ◌^◌, ◌==◌, false, length, if◌then◌else◌, Ok, Err};
-ghost use Rattle.jc_frames.specs.declared.instr.ArrayOp.TheVariants.{Load, Store};
-ghost use Rattle.jc_frames.specs.declared.instr.Instr.TheVariants.{Array, Return};
+ghost use Rattle.jc_frames.specs.declared.instr.Instr.TheVariants.{Return};
 ghost use Rattle.jc_instructions.specs.MethodReturn.{method_return};
 ghost use Rattle.jc_frames.specs.declared.outcome.Outcome.TheVariants.{Fault};
-ghost use Rattle.jc_instructions.specs.ArrayOps.{array_instruction};
 ghost use Rattle.jc_world.specs.declared.step_exit.StepExit.TheVariants.{End};
 ghost use Rattle.jc_memory.specs.Programs.{Executes};
 ghost use Rattle.jc_world.specs.Instructions.{after_instruction};
@@ -13,14 +11,14 @@ ghost use Rattle.jc_interp.specs.PausedSteps.{step_rest, memory_instruction, pau
 
 use crate::calling::invoke_instruction;
 use crate::frames_only::{FramesExit, PausedStep};
-use jc_frames::instr::{ArrayOp, Instr, ObjectOp, ReturnOp, ValueType};
+use jc_frames::instr::{ArrayOp, Instr, ObjectOp, ReturnOp};
 use jc_frames::{Frames, Outcome};
 use jc_instructions::method_component::method_component_of;
 use jc_instructions::method_return::return_to_caller;
 use jc_instructions::throw::{athrow, throw};
 use jc_instructions::{
-    array_instruction, array_load, array_store, checkcast, field_instruction, instanceof,
-    new_instance,
+    anewarray, array_load, array_store, arraylength, checkcast, field_instruction, instanceof,
+    new_instance, newarray,
 };
 use jc_linker::linked::Linked;
 use jc_memory::Memory;
@@ -53,7 +51,7 @@ fn object_instruction<S: WordStore>(
         memory.old (after_instruction result frames.new memory.new) }
 {
     match operation {
-        ObjectOp::New(array_instruction) => new_instance(array_instruction, frames, memory, linked),
+        ObjectOp::New(index) => new_instance(index, frames, memory, linked),
         ObjectOp::Athrow => athrow(place, frames, memory, linked),
         ObjectOp::CheckCast(tested) => checkcast(tested, frames, memory, linked),
         ObjectOp::InstanceOf(tested) => instanceof(tested, frames, memory, linked),
@@ -91,61 +89,10 @@ fn return_if_had<S: WordStore>(
     }
 }
 
-// Reads an element, if the code is a package's.
-#[tactic(auto, unfolding(jc_instructions::specs::ArrayOps::array_instruction))]
-#[inline(always)]
-fn load_of_package<S: WordStore>(
-    of_type: ValueType,
-    frames: &mut Frames,
-    memory: &mut Memory<S>,
-    linked: &Linked,
-) -> Result<(), StepExit>
-    requires up { memory.old.heap.down ≡ false }
-    ensures { Executes (if_had (Array (Load of_type)) frames.old (array_instruction (Load of_type)
-        linked.now frames.old memory.old)) memory.old (after_instruction result frames.new
-        memory.new) }
-{
-    in_package(frames)?;
-    array_load(of_type, frames, memory, linked)
-}
-
-// Writes an element, if the code is a package's.
-#[tactic(auto, unfolding(jc_instructions::specs::ArrayOps::array_instruction))]
-#[inline(always)]
-fn store_of_package<S: WordStore>(
-    of_type: ValueType,
-    frames: &mut Frames,
-    memory: &mut Memory<S>,
-    linked: &Linked,
-) -> Result<(), StepExit>
-    requires up { memory.old.heap.down ≡ false }
-    ensures { Executes (if_had (Array (Store of_type)) frames.old (array_instruction (Store of_type)
-        linked.now frames.old memory.old)) memory.old (after_instruction result frames.new
-        memory.new) }
-{
-    in_package(frames)?;
-    array_store(of_type, frames, memory, linked)
-}
-
-// Makes an array or pushes its length, if the code is a package's, out of line.
-#[inline(never)]
-fn array_of_package<S: WordStore>(
-    operation: ArrayOp,
-    frames: &mut Frames,
-    memory: &mut Memory<S>,
-    linked: &Linked,
-) -> Result<(), StepExit>
-    requires up { memory.old.heap.down ≡ false }
-    ensures { Executes (if_had (Array operation) frames.old (array_instruction operation linked.now
-        frames.old memory.old)) memory.old (after_instruction result frames.new memory.new) }
-{
-    in_package(frames)?;
-    array_instruction(operation, frames, memory, linked)
-}
-
 // Carries out an instruction at a place, after which the next one stands, if the code has it. What frames alone carry out does not come here.
-// A package has what fields and calls name, so of those in code that was lent there is nothing to ask; to read and to write elements are arms
-// of their own, so that an instruction is distinguished from the others only once.
+// A package has what fields and calls name, so of those in code that was lent there is nothing to ask; each instruction on arrays is an arm of
+// its own, so that it is distinguished from the others only once, and so that no decoded instruction is kept in memory.
+#[tactic(auto, unfolding(jc_instructions::specs::ArrayOps::array_instruction))]
 #[inline(always)]
 fn execute<S: WordStore>(
     instr: &Instr,
@@ -161,9 +108,28 @@ fn execute<S: WordStore>(
     match instr {
         Instr::Return(how) => return_if_had(*how, frames, memory),
         Instr::Field(field) => field_instruction(*field, frames, memory, linked),
-        Instr::Array(ArrayOp::Load(of_type)) => load_of_package(*of_type, frames, memory, linked),
-        Instr::Array(ArrayOp::Store(of_type)) => store_of_package(*of_type, frames, memory, linked),
-        Instr::Array(operation) => array_of_package(*operation, frames, memory, linked),
+        Instr::Array(ArrayOp::Load(of_type)) => {
+            in_package(frames)?;
+            array_load(*of_type, frames, memory, linked)
+        }
+        Instr::Array(ArrayOp::Store(of_type)) => {
+            in_package(frames)?;
+            array_store(*of_type, frames, memory, linked)
+        }
+        Instr::Array(ArrayOp::NewArray(of_type)) => {
+            in_package(frames)?;
+            newarray(*of_type, frames, memory)?;
+            Ok(())
+        }
+        Instr::Array(ArrayOp::ANewArray(index)) => {
+            in_package(frames)?;
+            anewarray(*index, frames, memory, linked)?;
+            Ok(())
+        }
+        Instr::Array(ArrayOp::ArrayLength) => {
+            in_package(frames)?;
+            arraylength(frames, memory, linked)
+        }
         Instr::Object(operation) => {
             in_package(frames)?;
             object_instruction(*operation, place, frames, memory, linked)
@@ -192,6 +158,25 @@ fn resume<S: WordStore>(
     }
 }
 
+// Throws what a step throws, at its place; every other exit stays.
+#[inline(never)]
+fn throw_at<S: WordStore>(
+    exit: StepExit,
+    place: u16,
+    frames: &mut Frames,
+    memory: &mut Memory<S>,
+    linked: &Linked,
+) -> Result<(), StepExit>
+{
+    match exit {
+        StepExit::Throw(exception) => {
+            frames.clear_stack();
+            throw(exception, place, frames, memory, linked)
+        }
+        other => Err(other),
+    }
+}
+
 /// Does what is left of a step at a pause, and throws what it throws.
 #[tactic(auto, using(jc_memory::proofs::ProgramLemmas::in_two_calls))]
 #[inline(always)]
@@ -206,10 +191,10 @@ pub(crate) fn finish<S: WordStore>(
         (after_instruction result frames.new memory.new) }
 {
     match resume(&pause.why, pause.place, frames, memory, linked) {
-        Err(StepExit::Throw(exception)) => {
-            frames.clear_stack();
-            throw(exception, pause.place, frames, memory, linked)
+        Ok(()) => Ok(()),
+        Err(exit) => {
+            throw_at(exit, pause.place, frames, memory, linked)?;
+            Ok(())
         }
-        other => other,
     }
 }
