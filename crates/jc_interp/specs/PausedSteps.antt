@@ -1,7 +1,8 @@
 -- Pauses: where instructions that need nothing but frames do not go on, and what is left to do then.
-use Rattle.std.specs.Prelude.{ℕ, ◌+◌, List, Option, Some, None, Result, Ok, Err}
+use Rattle.std.specs.Prelude.{ℕ, ◌≡◌, ◌+◌, List, Option, Some, None, Result, Ok, Err}
 use Rattle.jc_memory.specs.State.{MemoryState}
-use Rattle.jc_memory.specs.Programs.{Program, Finish, bind}
+use Rattle.jc_heap.specs.Completions.{Completion, Completed, Torn}
+use Rattle.jc_memory.specs.Programs.{Program, Finish, Executes, bind}
 use Rattle.jc_linker.specs.Values.{Packages}
 use Rattle.jc_frames.specs.declared.instr.Instr.{Instr}
 use Rattle.jc_frames.specs.declared.instr.Instr.TheVariants.{Return, Field, Array, Object, Invoke}
@@ -47,6 +48,11 @@ after_frames_step (Err pause) p s m = paused_rest pause.why pause.place p s m
 -- what is left of a step
 abbrev pub step_rest : PausedStep → Packages → Frames → MemoryState → Program (Next Frames)
 step_rest pause p s m = bind (paused_rest pause.why pause.place p s m) m (λ next v. throw_from pause.place p next v)
+
+-- an instruction at a place ended so; the step ends so once what it throws is thrown there
+abbrev pub EndsStep : Completion MemoryState (Next Frames) → ℕ → Packages → Completion MemoryState (Next Frames) → Type 0
+EndsStep (Completed next m) place p end = Executes (throw_from place p next m) m end
+EndsStep (Torn m) place p end = end ≡ Torn m
 
 -- what is left of a run of which this many steps are left after a pause
 abbrev pub run_rest : Option Attack → ℕ × PausedStep → List ℕ → Packages → Frames → MemoryState → Program (ℕ × Outcome)

@@ -3,11 +3,12 @@ ghost use Rattle.std.specs.Prelude.{◌≡◌, ◌<◌, ◌^◌, ◌==◌, false
 ghost use Rattle.jc_frames.specs.declared.instr.Instr.TheVariants.{Return};
 ghost use Rattle.jc_instructions.specs.MethodReturn.{method_return};
 ghost use Rattle.jc_frames.specs.declared.outcome.Outcome.TheVariants.{Fault};
-ghost use Rattle.jc_world.specs.declared.step_exit.StepExit.TheVariants.{End};
+ghost use Rattle.jc_frames.specs.declared.exceptions.Exception.{Exception};
+ghost use Rattle.jc_world.specs.declared.step_exit.StepExit.TheVariants.{End, Throw};
 ghost use Rattle.jc_memory.specs.Programs.{Executes};
 ghost use Rattle.jc_world.specs.Instructions.{after_instruction};
 ghost use Rattle.jc_interp.specs.Step.{code_of, if_had, object_instruction};
-ghost use Rattle.jc_interp.specs.PausedSteps.{step_rest, memory_instruction, paused_rest};
+ghost use Rattle.jc_interp.specs.PausedSteps.{EndsStep, step_rest, memory_instruction, paused_rest};
 
 use crate::calling::invoke_instruction;
 use crate::frames_only::{FramesExit, PausedStep};
@@ -158,7 +159,8 @@ fn resume<S: WordStore>(
     }
 }
 
-// Throws what a step throws, at its place; every other exit stays.
+// Throws what an instruction at a place throws; any other exit stays. It is one call for all exits, out of line, so that an instruction that
+// goes on keeps no room for one.
 #[inline(never)]
 fn throw_at<S: WordStore>(
     exit: StepExit,
@@ -167,6 +169,9 @@ fn throw_at<S: WordStore>(
     memory: &mut Memory<S>,
     linked: &Linked,
 ) -> Result<(), StepExit>
+    requires up { (e : Exception) → exit ≡ Throw e → memory.old.heap.down ≡ false }
+    ensures { EndsStep (after_instruction (Err exit) frames.old memory.old) place linked.now
+        (after_instruction result frames.new memory.new) }
 {
     match exit {
         StepExit::Throw(exception) => {
@@ -178,7 +183,7 @@ fn throw_at<S: WordStore>(
 }
 
 /// Does what is left of a step at a pause, and throws what it throws.
-#[tactic(auto, using(jc_memory::proofs::ProgramLemmas::in_two_calls))]
+#[tactic(auto, using(jc_memory::proofs::ProgramLemmas::in_two_calls, crate::proofs::StepEnds::ended_step))]
 #[inline(always)]
 pub(crate) fn finish<S: WordStore>(
     pause: &PausedStep,
