@@ -1,7 +1,10 @@
-use Rattle.std.proofs.Common.{◌≡◌, ◌∙◌, List, [], ◌∷◌, Ok, Err, refl, subst, ap, inl, inr, length}
+use Rattle.std.proofs.Common.{ℕ, ◌≡◌, ◌∙◌, List, [], ◌∷◌, Ok, Err, refl, subst, ap, inl, inr, length}
 use Rattle.std.proofs.lemmas.List.{length-replicate}
 use Rattle.std.proofs.lemmas.Result.{err_from_is_err_and}
 use Rattle.jc_words.specs.Store.{store_value}
+use Rattle.jc_platform.specs.Table.{Reads}
+use Rattle.jc_platform.specs.declared.fault.TableFault.{TableFault}
+use Rattle.jc_platform.specs.declared.fault.TableFault.TheVariants.{BadTable as BadLine}
 use Rattle.jcard_files.specs.FileDeeds.{FileDeed, ClosesImage, MakesImage}
 use Rattle.jcard_files.specs.NewImage.{IsLaid}
 use Rattle.jcard_files.proofs.new_image.make_from.Goals as goal
@@ -30,4 +33,21 @@ returns-in_err-store g c =
       MakesImage c.args.image.now c.args.extent.count (Err c.in_err-store.field-0.0) ∷ [],
       c.in_err-store.ensures.does,
       inr (inl (c.in_err-store.field-0.0, refl, (c.in-Ok.field-0, c.in-Ok.ensures), c.in_err-store.ensures.refused, refl)),
+    )
+
+-- the number that the fault of a table has
+abbrev line_of : TableFault → ℕ
+line_of (BadLine line) = line
+
+-- there is no other fault of a table
+bad_line : (fault : TableFault) → fault ≡ BadLine (line_of fault)
+bad_line (BadLine line) = refl
+
+pub returns-in-Err-BadTable : goal.returns-in-Err-BadTable
+returns-in-Err-BadTable g c =
+    let fault = c.in-Err-BadTable.field-0 in
+    rw (bad_line fault) (
+      [],
+      g.met.D.Disk.none c.args.disk.now,
+      inl (line_of fault, refl, subst (λ f. Reads c.args.text.now (Err f)) (bad_line fault) c.in-Err-BadTable.ensures, refl),
     )
