@@ -10,8 +10,8 @@ use jc_card::planned_fault::{PlannedFault, SecondFault};
 use jc_interp::attacks::FaultModel;
 use jcard_outcomes::standing::Left;
 use jcard_script::script::ScriptFault;
-use jcard_sweeps::runs::{RunFault, recovered, run_copy};
 use jcard_sweeps::last_line::last_line;
+use jcard_sweeps::runs::{RunFault, recovered, run_copy};
 use std::alloc::{AllocError, Global};
 
 /// A command of a script that is attacked: the text before its line, its line, the lines of the probe, and the most instructions of a

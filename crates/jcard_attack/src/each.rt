@@ -12,8 +12,7 @@ use crate::report::push_told;
 use crate::sweep::{Sought, attack};
 use crate::verdict::{is_any_accepted, push_verdict};
 use jcard_outcomes::each::{line_head, push_down_line};
-use jcard_sweeps::script_lines::command_text;
-use jcard_sweeps::script_lines::ScriptLine;
+use jcard_sweeps::script_lines::{ScriptLine, command_text};
 use std::alloc::{AllocError, Global};
 
 /// What becomes of a command of a script.

@@ -13,11 +13,11 @@ use jcard_attack::sweep::{Sought, attack};
 use jcard_outcomes::models::Models;
 use jcard_outcomes::verdict::broken;
 use jcard_sweeps::command::Behind;
-use jcard_tear::cuts::FollowUp;
-use jcard_tear::each::tear_line;
 use jcard_sweeps::progress::Nobody;
 use jcard_sweeps::script_lines::ScriptLine;
 use jcard_sweeps::sweep_fault::TearFault;
+use jcard_tear::cuts::FollowUp;
+use jcard_tear::each::tear_line;
 use std::alloc::{AllocError, Global};
 
 /// What is reported of the sweep of the row after these, on cards of copies of this store: nothing where it is well.
