@@ -40,6 +40,7 @@ pub(crate) fn code_of<'a>(lent: &'a [u8], package_number: u8, linked: &'a Linked
 }
 
 // Makes, throws or tests an object.
+#[inline(never)]
 fn object_instruction<S: WordStore>(
     operation: ObjectOp,
     place: u16,
@@ -133,7 +134,8 @@ fn execute<S: WordStore>(
         }
         Instr::Object(operation) => {
             in_package(frames)?;
-            object_instruction(*operation, place, frames, memory, linked)
+            object_instruction(*operation, place, frames, memory, linked)?;
+            Ok(())
         }
         Instr::Invoke(call) => invoke_instruction(*call, place, frames, memory, linked),
         _ => Err(StepExit::End(Outcome::Fault)),
