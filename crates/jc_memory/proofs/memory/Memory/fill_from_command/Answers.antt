@@ -27,8 +27,8 @@ returns g c =
     let last = c.fill_zeros.ensures.done ∙ ap (λ n. with_area c.put_bytes.new.self c.args.event (with_cells (area c.put_bytes.new.self c.args.event)
     (c.facts-place.result.place + n) (replicate c.args.zeros (Short (pos 0))))) (sym long) in
     ap {A = MemoryState} (λ s. record s { ram = c.fill_zeros.new.self }) c.self.view_is
-    ∙ ap {A = RamState} (λ r. record c.args.self.now { ram = r }) (filled_from c.args.event c.args.self.now c.put_bytes.new.self c.fill_zeros.new.self c.args.object
-    c.facts-place.result.place c.args.zeros bytes (subst HasSizes ram c.self.invariant.0.ram) c.requires.transient
+    ∙ ap {A = RamState} (λ r. record c.args.self.now { ram = r }) (filled_from c.args.event c.args.self.now c.put_bytes.new.self
+    c.fill_zeros.new.self c.args.object c.facts-place.result.place c.args.zeros bytes (subst HasSizes ram c.self.invariant.0.ram) c.requires.transient
     (ap (λ f. f.place) is) fits mid last)
 
 pub put_bytes-requires : goal.put_bytes-requires
