@@ -29,7 +29,8 @@ pub(crate) fn copy_of(numbers: &EntryIndex) -> EntryIndex
 
 // The end of the index where an entry that names the address stands, or where one would belong, if it is an end: code mostly writes the
 // words of an array in their order, and two bytes of each.
-fn find_at_end<S: WordStore>(
+#[inline(always)]
+pub(crate) fn find_at_end<S: WordStore>(
     store: &S,
     log: Log,
     n: u16,
@@ -67,6 +68,40 @@ fn find_at_end<S: WordStore>(
 
 // Where in the index of the first n entries one stands that names the address, or where one would
 // belong.
+#[inline(never)]
+pub(crate) fn find_within<S: WordStore>(
+    store: &S,
+    log: Log,
+    n: u16,
+    numbers: &[u16],
+    address: u16,
+) -> Result<usize, usize>
+    requires few { n ≤ log.capacity }
+    requires size { log.start + 2 * log.capacity ≤ length (S.words store.now) }
+    requires small { log.start + 2 * log.capacity < 2 ^ 16 }
+    requires index { IsIndexOf log (S.words store.now) n numbers.now }
+    ensures { MatchResult result (λ i. StandsAt log (S.words store.now) numbers.now address i)
+        (λ i. IsGapFor log (S.words store.now) numbers.now address i) }
+{
+    let mut low = 0;
+    let mut high = numbers.len();
+    while low < high {
+        let middle = low + (high - low) / 2;
+        let there = store.read(log.address_word(numbers[middle]));
+        if there == address {
+            return Ok(middle);
+        }
+        if there < address {
+            low = middle + 1;
+        } else {
+            high = middle;
+        }
+    }
+    Err(low)
+}
+
+// The same, at the ends of the index first.
+#[inline(always)]
 fn find<S: WordStore>(
     store: &S,
     log: Log,
@@ -84,21 +119,7 @@ fn find<S: WordStore>(
     if let Some(end) = find_at_end(store, log, n, numbers, address) {
         return end;
     }
-    let mut low = 0;
-    let mut high = numbers.len();
-    while low < high {
-        let middle = low + (high - low) / 2;
-        let there = store.read(log.address_word(numbers[middle]));
-        if there == address {
-            return Ok(middle);
-        }
-        if there < address {
-            low = middle + 1;
-        } else {
-            high = middle;
-        }
-    }
-    Err(low)
+    find_within(store, log, n, numbers, address)
 }
 
 // Whether one of the first n entries names the address.
@@ -121,7 +142,7 @@ pub(crate) fn is_named<S: WordStore>(
 // Puts a number into the index: at its end without a move of others, as where code writes words in their order.
 #[tactic(auto, using(std::proofs::lemmas::List::Edits::insert_end))]
 #[inline(always)]
-fn insert_at(numbers: &mut EntryIndex, place: usize, n: u16)
+pub(crate) fn insert_at(numbers: &mut EntryIndex, place: usize, n: u16)
     requires within { place ≤ length numbers.old.items }
     requires room { length numbers.old.items < most_capacity }
     ensures { numbers.new.items ≡ insert numbers.old.items place n }
