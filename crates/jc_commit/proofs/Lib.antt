@@ -20,3 +20,4 @@ pub mod EntryRuns
 pub mod WordPlaces
 pub mod Inside
 pub mod OneWord
+pub mod KeptWord

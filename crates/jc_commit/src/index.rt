@@ -27,10 +27,10 @@ pub(crate) fn copy_of(numbers: &EntryIndex) -> EntryIndex
     }
 }
 
-// The end of the index where an entry that names the address stands, or where one would belong, if it is an end: code mostly writes the
-// words of an array in their order, and two bytes of each.
+// The last place of the index, where an entry that names the address stands, or after which one would belong, if it is so: code mostly writes
+// the words of an array in their order, and two bytes of each.
 #[inline(always)]
-pub(crate) fn find_at_end<S: WordStore>(
+pub(crate) fn find_at_last<S: WordStore>(
     store: &S,
     log: Log,
     n: u16,
@@ -56,6 +56,32 @@ pub(crate) fn find_at_end<S: WordStore>(
     if last == address {
         return Some(Ok(count - 1));
     }
+    None
+}
+
+// The same of either end of the index.
+#[inline(always)]
+fn find_at_end<S: WordStore>(
+    store: &S,
+    log: Log,
+    n: u16,
+    numbers: &[u16],
+    address: u16,
+) -> Option<Result<usize, usize>>
+    requires few { n ≤ log.capacity }
+    requires size { log.start + 2 * log.capacity ≤ length (S.words store.now) }
+    requires small { log.start + 2 * log.capacity < 2 ^ 16 }
+    requires index { IsIndexOf log (S.words store.now) n numbers.now }
+    ensures { IfSome result (λ place. MatchResult place
+        (λ i. StandsAt log (S.words store.now) numbers.now address i)
+        (λ i. IsGapFor log (S.words store.now) numbers.now address i)) }
+{
+    if let Some(last) = find_at_last(store, log, n, numbers, address) {
+        return Some(last);
+    }
+    if numbers.is_empty() {
+        return None;
+    }
     let first = store.read(log.address_word(numbers[0]));
     if address < first {
         return Some(Err(0));
@@ -69,7 +95,7 @@ pub(crate) fn find_at_end<S: WordStore>(
 // Where in the index of the first n entries one stands that names the address, or where one would
 // belong.
 #[inline(never)]
-pub(crate) fn find_within<S: WordStore>(
+fn find_within<S: WordStore>(
     store: &S,
     log: Log,
     n: u16,
@@ -102,7 +128,7 @@ pub(crate) fn find_within<S: WordStore>(
 
 // The same, at the ends of the index first.
 #[inline(always)]
-fn find<S: WordStore>(
+pub(crate) fn find<S: WordStore>(
     store: &S,
     log: Log,
     n: u16,

@@ -110,12 +110,7 @@ pub(crate) fn count_new<S: WordStore>(
 
 // Writes an entry: the address, and the word there as it is. The count stays.
 #[inline(always)]
-pub(crate) fn put_entry<S: WordStore>(
-    store: &mut S,
-    log: Log,
-    k: u16,
-    address: u16,
-) -> Result<(), StoreDown>
+fn put_entry<S: WordStore>(store: &mut S, log: Log, k: u16, address: u16) -> Result<(), StoreDown>
     requires size { log.start + 2 * log.capacity ≤ length (S.words store.old) }
     requires small { log.start + 2 * log.capacity < 2 ^ 16 }
     requires few { k < log.capacity }
@@ -233,11 +228,7 @@ fn put_needing<S: WordStore, C: WordChanges>(
 
 // Counts the entries, where there are more.
 #[inline(always)]
-pub(crate) fn count_entries<S: WordStore>(
-    store: &mut S,
-    before: u16,
-    behind: u16,
-) -> Result<(), StoreDown>
+fn count_entries<S: WordStore>(store: &mut S, before: u16, behind: u16) -> Result<(), StoreDown>
     requires size { log_end ≤ length (S.words store.old) }
     requires count { before ≡ count_of (S.words store.old) }
     ensures words { OnOk result (S.words store.new ≡ (if before ==

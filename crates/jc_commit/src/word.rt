@@ -6,14 +6,15 @@ ghost use Rattle.jc_commit.specs.Keep.{is_taken_back, writes_inside};
 ghost use Rattle.jc_commit.specs.EntryIndex.{IsIndexOf, IsPlaceFor};
 ghost use Rattle.jc_commit.specs.Writing.{Wrote, HasLog, IsFreeFrom, KeepsTransaction, ChangesInside};
 
-use crate::index::{EntryIndex, find_at_end, find_within, insert_at};
-use crate::keep::{count_entries, put_entry, write_through};
+use crate::index::{EntryIndex, find, find_at_last, insert_at};
+use crate::keep::write_through;
+use jc_words::layout::COUNT;
 use jc_words::{Log, StoreDown, WordStore};
 
-// Where the index of the first n entries has to have one more before this address is written, where an end of
-// it says so.
+// Where the index of the first n entries has to have one more before this address is written, where the last
+// one says so.
 #[inline(always)]
-pub(crate) fn place_at_end<S: WordStore>(
+pub(crate) fn place_at_last<S: WordStore>(
     store: &S,
     log: Log,
     n: u16,
@@ -31,7 +32,7 @@ pub(crate) fn place_at_end<S: WordStore>(
     if born <= address {
         return Some(None);
     }
-    match find_at_end(store, log, n, numbers, address) {
+    match find_at_last(store, log, n, numbers, address) {
         Some(Ok(_)) => Some(None),
         Some(Err(place)) => Some(Some(place)),
         None => None,
@@ -40,7 +41,7 @@ pub(crate) fn place_at_end<S: WordStore>(
 
 // The same, wherever it is.
 #[inline(always)]
-pub(crate) fn place_within<S: WordStore>(
+pub(crate) fn place_for<S: WordStore>(
     store: &S,
     log: Log,
     n: u16,
@@ -54,10 +55,10 @@ pub(crate) fn place_within<S: WordStore>(
     requires index { IsIndexOf log (S.words store.now) n numbers.now }
     ensures { IsPlaceFor log (S.words store.now) n numbers.now born address result }
 {
-    if born <= address {
+    if address >= born {
         return None;
     }
-    match find_within(store, log, n, numbers, address) {
+    match find(store, log, n, numbers, address) {
         Ok(_) => None,
         Err(place) => Some(place),
     }
@@ -69,7 +70,10 @@ pub(crate) fn has_room_at(log: Log, n: u16, place: Option<usize>) -> bool
     requires { n ≤ log.capacity }
     ensures { result ≡ nat_le (n + (if is_some place then 1 else 0)) log.capacity }
 {
-    place.is_none() || n < log.capacity
+    match place {
+        None => true,
+        Some(_) => n < log.capacity,
+    }
 }
 
 // Puts an entry of the word after the first n ones, counts it, and then writes the word.
@@ -93,9 +97,8 @@ fn keep_word<S: WordStore>(
         (S.words store.new) (n + 1)) }
     ensures wrote { Wrote S.down S.passed S.refusals 4 (is_ok result) store.old store.new }
 {
-    put_entry(store, log, n, address)?;
-    count_entries(store, n, n + 1)?;
-    write_through(store, born, &[(address, value)])?;
+    let entry = (address, store.read(address));
+    store.write_four(log.address_word(n), entry, (COUNT, n + 1), (address, value))?;
     Ok(())
 }
 
@@ -129,7 +132,7 @@ pub(crate) fn write_at<S: WordStore>(
     let Some(place) = place else {
         return write_through(store, born, &[(address, value)]);
     };
-    keep_word(store, log, n, born, address, value)?;
     insert_at(numbers, place, n);
+    keep_word(store, log, n, born, address, value)?;
     Ok(())
 }

@@ -8,34 +8,34 @@ use Rattle.jc_commit.proofs.journal.Journal.write_by_search.Goals as goal
 
 pub returns-then-not-has_room_at-clause-full : goal.returns-then-not-has_room_at-clause-full
 returns-then-not-has_room_at-clause-full g c =
-    let i = inside_one _ c.args.address c.args.value c.place_within-place.result c.self.invariant c.self.view_is c.requires.up c.requires.inside c.read-n.ensures c.requires.place
-    c.place_within-place.ensures in
+    let i = inside_one _ c.args.address c.args.value c.place_for-place.result c.self.invariant c.self.view_is c.requires.up c.requires.inside c.read-n.ensures c.requires.place
+    c.place_for-place.ensures in
     (λ _. i.room ∙ sym c.has_room_at.ensures ∙ c.if-not-has_room_at.true, λ _. refl)
 
 pub write_at-requires-clause-there : goal.write_at-requires-clause-there
 write_at-requires-clause-there g c =
-    let i = inside_one _ c.args.address c.args.value c.place_within-place.result c.self.invariant c.self.view_is c.requires.up c.requires.inside c.read-n.ensures c.requires.place
-    c.place_within-place.ensures in
+    let i = inside_one _ c.args.address c.args.value c.place_for-place.result c.self.invariant c.self.view_is c.requires.up c.requires.inside c.read-n.ensures c.requires.place
+    c.place_for-place.ensures in
     i.there
 
 pub returns-in_err-write_at-clause-full : goal.returns-in_err-write_at-clause-full
 returns-in_err-write_at-clause-full g c =
-    let i = inside_one _ c.args.address c.args.value c.place_within-place.result c.self.invariant c.self.view_is c.requires.up c.requires.inside c.read-n.ensures c.requires.place
-    c.place_within-place.ensures in (
+    let i = inside_one _ c.args.address c.args.value c.place_for-place.result c.self.invariant c.self.view_is c.requires.up c.requires.inside c.read-n.ensures c.requires.place
+    c.place_for-place.ensures in (
       λ e. absurd (not_full c.from_residual.result c.from_residual.ensures.1 e),
       λ full. absurd (false≢true (sym full ∙ i.room ∙ sym c.has_room_at.ensures ∙ c.if-not-has_room_at.false)),
     )
 
 pub returns-in_err-write_at-clause-stopped : goal.returns-in_err-write_at-clause-stopped
 returns-in_err-write_at-clause-stopped g c = λ _.
-    let i = inside_one _ c.args.address c.args.value c.place_within-place.result c.self.invariant c.self.view_is c.requires.up c.requires.inside c.read-n.ensures c.requires.place
-    c.place_within-place.ensures in
+    let i = inside_one _ c.args.address c.args.value c.place_for-place.result c.self.invariant c.self.view_is c.requires.up c.requires.inside c.read-n.ensures c.requires.place
+    c.place_for-place.ensures in
     torn c.in_err-write_at.ensures.wrote c.write_at.ensures.stays c.self.view_is (omega (arith, i.writes))
 
 pub returns-clause-ok : goal.returns-clause-ok
 returns-clause-ok g c =
-    let i = inside_one _ c.args.address c.args.value c.place_within-place.result c.self.invariant c.self.view_is c.requires.up c.requires.inside c.read-n.ensures c.requires.place
-    c.place_within-place.ensures in
+    let i = inside_one _ c.args.address c.args.value c.place_for-place.result c.self.invariant c.self.view_is c.requires.up c.requires.inside c.read-n.ensures c.requires.place
+    c.place_for-place.ensures in
     let v = c.self.view_is in
     let e = c.in_ok-write_at.ensures in
     let stays = c.write_at.ensures.stays in
@@ -44,6 +44,6 @@ returns-clause-ok g c =
 
 pub returns-clause-full : goal.returns-clause-full
 returns-clause-full g c =
-    let i = inside_one _ c.args.address c.args.value c.place_within-place.result c.self.invariant c.self.view_is c.requires.up c.requires.inside c.read-n.ensures c.requires.place
-    c.place_within-place.ensures in
+    let i = inside_one _ c.args.address c.args.value c.place_for-place.result c.self.invariant c.self.view_is c.requires.up c.requires.inside c.read-n.ensures c.requires.place
+    c.place_for-place.ensures in
     (λ e. cc, λ full. absurd (false≢true (sym full ∙ i.room ∙ sym c.has_room_at.ensures ∙ c.if-not-has_room_at.false)))

@@ -2,7 +2,7 @@ use Rattle.std.proofs.Common.{ℕ, Result, MatchResult, subst}
 use Rattle.jc_commit.specs.EntryIndex.{StandsAt, IsGapFor}
 use Rattle.jc_commit.proofs.Indexes.{taken_named, not_taken_named}
 use Rattle.jc_commit.proofs.Views.{above_all}
-use Rattle.jc_commit.proofs.word.place_at_end.Goals as goal
+use Rattle.jc_commit.proofs.word.place_at_last.Goals as goal
 
 pub returns-in-Some-Ok : goal.returns-in-Some-Ok
 returns-in-Some-Ok g c =
