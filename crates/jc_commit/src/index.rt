@@ -59,9 +59,9 @@ pub(crate) fn find_at_last<S: WordStore>(
     None
 }
 
-// The same of either end of the index.
+// The first place of the index, likewise.
 #[inline(always)]
-fn find_at_end<S: WordStore>(
+fn find_at_first<S: WordStore>(
     store: &S,
     log: Log,
     n: u16,
@@ -76,11 +76,8 @@ fn find_at_end<S: WordStore>(
         (λ i. StandsAt log (S.words store.now) numbers.now address i)
         (λ i. IsGapFor log (S.words store.now) numbers.now address i)) }
 {
-    if let Some(last) = find_at_last(store, log, n, numbers, address) {
-        return Some(last);
-    }
     if numbers.is_empty() {
-        return None;
+        return Some(Err(0));
     }
     let first = store.read(log.address_word(numbers[0]));
     if address < first {
@@ -94,7 +91,6 @@ fn find_at_end<S: WordStore>(
 
 // Where in the index of the first n entries one stands that names the address, or where one would
 // belong.
-#[inline(never)]
 fn find_within<S: WordStore>(
     store: &S,
     log: Log,
@@ -126,9 +122,9 @@ fn find_within<S: WordStore>(
     Err(low)
 }
 
-// The same, at the ends of the index first.
+// The same, at the first place before the others.
 #[inline(always)]
-pub(crate) fn find<S: WordStore>(
+pub(crate) fn find_from_first<S: WordStore>(
     store: &S,
     log: Log,
     n: u16,
@@ -142,10 +138,32 @@ pub(crate) fn find<S: WordStore>(
     ensures { MatchResult result (λ i. StandsAt log (S.words store.now) numbers.now address i)
         (λ i. IsGapFor log (S.words store.now) numbers.now address i) }
 {
-    if let Some(end) = find_at_end(store, log, n, numbers, address) {
-        return end;
+    if let Some(first) = find_at_first(store, log, n, numbers, address) {
+        return first;
     }
     find_within(store, log, n, numbers, address)
+}
+
+// The same, at the last place before it.
+#[inline(always)]
+fn find<S: WordStore>(
+    store: &S,
+    log: Log,
+    n: u16,
+    numbers: &[u16],
+    address: u16,
+) -> Result<usize, usize>
+    requires few { n ≤ log.capacity }
+    requires size { log.start + 2 * log.capacity ≤ length (S.words store.now) }
+    requires small { log.start + 2 * log.capacity < 2 ^ 16 }
+    requires index { IsIndexOf log (S.words store.now) n numbers.now }
+    ensures { MatchResult result (λ i. StandsAt log (S.words store.now) numbers.now address i)
+        (λ i. IsGapFor log (S.words store.now) numbers.now address i) }
+{
+    if let Some(last) = find_at_last(store, log, n, numbers, address) {
+        return last;
+    }
+    find_from_first(store, log, n, numbers, address)
 }
 
 // Whether one of the first n entries names the address.

@@ -6,7 +6,7 @@ ghost use Rattle.jc_commit.specs.Keep.{is_taken_back, writes_inside};
 ghost use Rattle.jc_commit.specs.EntryIndex.{IsIndexOf, IsPlaceFor};
 ghost use Rattle.jc_commit.specs.Writing.{Wrote, HasLog, IsFreeFrom, KeepsTransaction, ChangesInside};
 
-use crate::index::{EntryIndex, find, find_at_last, insert_at};
+use crate::index::{EntryIndex, find_at_last, find_from_first, insert_at};
 use crate::keep::write_through;
 use jc_words::layout::COUNT;
 use jc_words::{Log, StoreDown, WordStore};
@@ -58,7 +58,7 @@ pub(crate) fn place_for<S: WordStore>(
     if address >= born {
         return None;
     }
-    match find(store, log, n, numbers, address) {
+    match find_from_first(store, log, n, numbers, address) {
         Ok(_) => None,
         Err(place) => Some(place),
     }
