@@ -4,7 +4,7 @@ ghost use Rattle.jc_words.specs.Layout.{most_capacity};
 ghost use Rattle.jc_commit.specs.Image.{count_of, limit_of, touched_of, IsPlace};
 ghost use Rattle.jc_commit.specs.Keep.{is_taken_back, writes_inside};
 ghost use Rattle.jc_commit.specs.EntryIndex.{IsIndexOf, IsPlaceFor};
-ghost use Rattle.jc_commit.specs.Writing.{Wrote, HasLog, IsFreeFrom, KeepsTransaction, ChangesInside};
+ghost use Rattle.jc_commit.specs.Writing.{Wrote, HasLog, IsFreeFrom, MayBeWritten, KeepsTransaction, ChangesInside};
 
 use crate::index::{EntryIndex, find_at_last, find_from_first, insert_at};
 use crate::keep::write_through;
@@ -87,8 +87,7 @@ fn keep_word<S: WordStore>(
     value: u16,
 ) -> Result<(), StoreDown>
     requires stands { HasLog log (S.words store.old) }
-    requires count { n ≡ count_of (S.words store.old) }
-    requires room { n < log.capacity }
+    requires count { (n ≡ count_of (S.words store.old)) × (n < log.capacity) }
     requires births { IsFreeFrom (S.words store.old) born }
     requires there { IsPlace (limit_of (S.words store.old)) address }
     requires new { is_taken_back (touched_of (S.words store.old)) born address ≡ false }
@@ -114,13 +113,9 @@ pub(crate) fn write_at<S: WordStore>(
     address: u16,
     value: u16,
 ) -> Result<(), StoreDown>
-    requires stands { HasLog log (S.words store.old) }
-    requires index { IsIndexOf log (S.words store.old) n numbers.old.items × (n ≡ count_of (S.words store.old)) }
+    requires ready { MayBeWritten log (S.words store.old) n numbers.old.items born address place }
     requires most { log.capacity ≤ most_capacity }
     requires room { n + (if is_some place then 1 else 0) ≤ log.capacity }
-    requires births { IsFreeFrom (S.words store.old) born }
-    requires there { IsPlace (limit_of (S.words store.old)) address }
-    requires place { IsPlaceFor log (S.words store.old) n numbers.old.items born address place }
     ensures stays { KeepsTransaction (S.words store.old) (S.words store.new) }
     ensures changed { OnOk result (ChangesInside born ((address, value) ∷ []) (S.words store.old)
         (S.words store.new) (n + (if is_some place then 1 else 0))) }

@@ -18,7 +18,7 @@ returns-in_err-write_four-clause-stays g c =
     let words : ((c.address_word.result, a) ∷ (c.address_word.result + 1, c.read.result) ∷ (count_address, n + 1) ∷ (a, x) ∷ []) ≡ kept_words l w n a x =
     λ i. (c.address_word.ensures i, a) ∷ (c.address_word.ensures i + 1, c.read.ensures i) ∷ (count_address, n + 1) ∷ (a, x) ∷ [] in
     subst (KeepsTransaction w) (sym (e.1.written ∙ ap (λ (cs : List (ℕ × ℕ)). with_placed w (take k cs)) words))
-    (stays_at l w n c.args.born a x r.stands r.there r.room r.count r.new r.births k (omega (arith, e.0)))
+    (stays_at l w n c.args.born a x r.stands r.there r.count.1 r.count.0 r.new r.births k (omega (arith, e.0)))
 
 pub returns-clause-stays : goal.returns-clause-stays
 returns-clause-stays g c =
@@ -31,7 +31,7 @@ returns-clause-stays g c =
     let words : ((c.address_word.result, a) ∷ (c.address_word.result + 1, c.read.result) ∷ (count_address, n + 1) ∷ (a, x) ∷ []) ≡ kept_words l w n a x =
     λ i. (c.address_word.ensures i, a) ∷ (c.address_word.ensures i + 1, c.read.ensures i) ∷ (count_address, n + 1) ∷ (a, x) ∷ [] in
     subst (KeepsTransaction w) (sym (c.in_ok-write_four.ensures.written ∙ ap (λ (cs : List (ℕ × ℕ)). with_placed w (take 4 cs)) words))
-    (stays_at l w n c.args.born a x r.stands r.there r.room r.count r.new r.births 4 (omega arith))
+    (stays_at l w n c.args.born a x r.stands r.there r.count.1 r.count.0 r.new r.births 4 (omega arith))
 
 pub returns-clause-changed : goal.returns-clause-changed
 returns-clause-changed g c =
@@ -45,4 +45,4 @@ returns-clause-changed g c =
     λ i. (c.address_word.ensures i, a) ∷ (c.address_word.ensures i + 1, c.read.ensures i) ∷ (count_address, n + 1) ∷ (a, x) ∷ [] in
     subst (λ (u : List ℕ). ChangesInside c.args.born ((a, x) ∷ []) w u (n + 1))
     (sym (c.in_ok-write_four.ensures.written ∙ ap (λ (cs : List (ℕ × ℕ)). with_placed w (take 4 cs)) words))
-    (changed_kept l w n c.args.born a x r.stands r.there r.room r.count r.new r.births)
+    (changed_kept l w n c.args.born a x r.stands r.there r.count.1 r.count.0 r.new r.births)

@@ -1,4 +1,5 @@
-use Rattle.std.proofs.Common.{[], ◌∷◌, refl, sym, ap, ◌∙◌, arith}
+use Rattle.std.proofs.Common.{ℕ, List, [], ◌∷◌, refl, sym, ap, subst, ◌∙◌, arith}
+use Rattle.jc_commit.specs.EntryIndex.{IsIndexOf, IsPlaceFor}
 use Rattle.std.proofs.lemmas.Bool.{false≢true}
 use Rattle.jc_commit.specs.State.{State, live_words}
 use Rattle.jc_commit.proofs.Changing.{changed, torn, match_true}
@@ -12,11 +13,21 @@ returns-then-not-has_room_at-clause-full g c =
     c.in-Some.ensures in
     (λ _. i.room ∙ sym c.has_room_at.ensures ∙ c.if-not-has_room_at.true, λ _. refl)
 
-pub write_at-requires-clause-there : goal.write_at-requires-clause-there
-write_at-requires-clause-there g c =
+pub write_at-requires-clause-ready : goal.write_at-requires-clause-ready
+write_at-requires-clause-ready g c =
     let i = inside_one _ c.args.address c.args.value c.in-Some.place c.self.invariant c.self.view_is c.requires.up c.requires.inside c.read-n.ensures c.requires.place
     c.in-Some.ensures in
-    i.there
+    let sound = c.self.invariant in
+    let l = c.self.inside.log in
+    let w = g.S.WordStore.words c.self.inside.store in
+    record {
+      stands = record { good = sound.good; stands = sound.stands; within = sound.within; small = sound.small };
+      count = c.read-n.ensures;
+      index = subst (λ (m : ℕ). IsIndexOf l w m c.self.inside.index.items) (sym c.read-n.ensures) i.whole.index;
+      births = λ a high below. omega (arith, i.whole.births, high);
+      there = i.there;
+      place = subst (λ (numbers : List ℕ). IsPlaceFor l w c.read-n.result numbers c.self.inside.born c.args.address c.in-Some.place) c.as_slice-numbers.ensures.value c.in-Some.ensures;
+    }
 
 pub returns-in_err-write_at-in-Some-clause-full : goal.returns-in_err-write_at-in-Some-clause-full
 returns-in_err-write_at-in-Some-clause-full g c =
