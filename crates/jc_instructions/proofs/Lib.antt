@@ -5,3 +5,4 @@ mod Few
 pub mod Handlers
 pub mod Implementing
 mod Same
+mod TopCells
