@@ -138,10 +138,10 @@ pub fn getfield_at_once<S: WordStore>(
     }
 }
 
-/// The same of `getfield_this`.
+// Carries out `getfield_this` of a field of this type, if its object is such a one; says whether it did.
 #[inline(always)]
 #[tactic(auto, unfolding(crate::specs::Fields::getfield_this))]
-pub fn getfield_this_at_once<S: WordStore>(
+fn getfield_this_of<S: WordStore>(
     of_type: ValueType,
     index: u16,
     frames: &mut Frames,
@@ -166,6 +166,28 @@ pub fn getfield_this_at_once<S: WordStore>(
     };
     frames.push(value);
     true
+}
+
+/// The same of `getfield_this`.
+#[inline(always)]
+pub fn getfield_this_at_once<S: WordStore>(
+    of_type: ValueType,
+    index: u16,
+    frames: &mut Frames,
+    memory: &Memory<S>,
+    linked: &Linked,
+) -> bool
+    requires up { memory.now.heap.down ≡ false }
+    ensures { IsDoneAtOnce result (getfield_this of_type index linked.now frames.old memory.now)
+        frames.old frames.new }
+{
+    match of_type {
+        ValueType::Reference => {
+            getfield_this_of(ValueType::Reference, index, frames, memory, linked)
+        }
+        ValueType::Byte => getfield_this_of(ValueType::Byte, index, frames, memory, linked),
+        ValueType::Short => getfield_this_of(ValueType::Short, index, frames, memory, linked),
+    }
 }
 
 // An array with this header is one of the runtime environment's that no deselection clears: all reach its elements.
