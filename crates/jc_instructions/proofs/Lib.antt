@@ -6,3 +6,4 @@ pub mod Handlers
 pub mod Implementing
 mod Same
 pub mod Receivers
+mod TopCells
