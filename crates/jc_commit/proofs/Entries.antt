@@ -1,5 +1,5 @@
 -- Entries that are written, and then counted.
-use Rattle.std.proofs.Common.{◌≡◌, ℕ, ◌+◌, ◌*◌, ◌<◌, ◌≤◌, List, length, get_or, set, slice_index, sym, ◌∙◌, subst, arith, get_or-set_other}
+use Rattle.std.proofs.Common.{◌≡◌, ℕ, zero, suc, ◌+◌, ◌*◌, ◌<◌, ◌≤◌, List, [], ◌∷◌, length, get_or, set, slice_index, sym, ◌∙◌, subst, arith, get_or-set_other}
 use Rattle.std.proofs.lemmas.List.{length-set}
 use Rattle.jc_words.specs.Image.{log_of}
 use Rattle.jc_words.specs.declared.log.Log.{Log}
@@ -29,6 +29,11 @@ place_beside w a good place =
 
 pub places_beside : (w : List ℕ) (changes : List (ℕ × ℕ)) → IsGoodLog w → ArePlaces (limit_of w) changes → AreBeside (log_of w) (length w) changes
 places_beside w changes good places k below = place_beside w (target changes k) good (places k below)
+
+-- one word at a place
+pub place_one : (n a x : ℕ) → IsPlace n a → ArePlaces n ((a, x) ∷ [])
+place_one n a x place zero below = place
+place_one n a x place (suc k) below = absurd (omega (arith, below))
 
 -- entry `first` and the next ones have these words' addresses and values
 abbrev pub HasEntries : Log → ℕ → List (ℕ × ℕ) → List ℕ → List ℕ → Type 0

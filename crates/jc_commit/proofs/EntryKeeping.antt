@@ -21,7 +21,7 @@ use Rattle.jc_commit.specs.Keep.{writes_inside, is_taken_back}
 use Rattle.jc_commit.specs.EntryIndex.{named_by, needing, with_entries, IsIndexOf, GoBack}
 use Rattle.jc_commit.proofs.Words.{bounds_of, place_spot, log-set}
 use Rattle.jc_commit.proofs.Steps.{limit-same, IsGoodLog-set_place, entries-set_place, plain-set_place}
-use Rattle.jc_commit.proofs.Entries.{HasEntries, same_after, target, places_beside}
+use Rattle.jc_commit.proofs.Entries.{HasEntries, same_after, target, place_one, places_beside}
 use Rattle.jc_commit.proofs.Counted.{entry_of, named_new, kept_before, Counted, counted_at}
 use Rattle.jc_commit.proofs.InPlace.{listed, unlisted, recovered-set_place, live_words-set}
 use Rattle.jc_commit.proofs.WhatIsKept.{contains_filter, true-not}
@@ -268,6 +268,17 @@ is_taken_back_one w es changes born k within =
           (contains_filter (λ c. not (is_taken_back touched born c.0)) changes k (get_or changes k (0, 0)) within
           (get_or_default changes k (get_or changes k (0, 0)) (0, 0) within) (true-not (is_taken_back touched born a) needs)))
     ]
+
+-- the same of one word whose old value has to be kept
+pub counting_one : {l : Log} {w v : List ℕ} {n born a : ℕ} (u : List ℕ) (x : ℕ) → HasLog l w → IsPlace (limit_of w) a → n < l.capacity → n ≡ count_of w
+    → is_taken_back (touched_of w) born a ≡ false → v ≡ with_entries l w n ((a, 0) ∷ []) → u ≡ (if n == n + 1 then v else set v count_address (n + 1))
+    → Counting l w u n (n + 1) born ((a, x) ∷ [])
+counting_one {l = l} {w = w} {v = v} {n = n} {born = born} {a = a} u x has place room is new entry written =
+    let names : named_by l w n ≡ touched_of w = ap (named_by l w) is ∙ names_touched l w has.stands in
+    let one : needing (touched_of w) born ((a, x) ∷ []) ≡ (a, x) ∷ [] = needing_one (touched_of w) born (a, x) new in
+    let named : needing (named_by l w n) born ((a, x) ∷ []) ≡ (a, x) ∷ [] = ap (λ (t : List ℕ). needing t born ((a, x) ∷ [])) names ∙ one in
+    counting u ((a, x) ∷ []) has (place_one (limit_of w) a x place) (omega (arith, room, is, ap (λ (l : List (ℕ × ℕ)). length l) one)) is
+    (subst (λ (xs : List (ℕ × ℕ)). ArePut l n xs w v (n + 1)) (sym named) (record { next = refl; words = entry })) written
 
 pub all_go_back : (w u : List ℕ) (born : ℕ) (changes : List (ℕ × ℕ)) → entries u ≡ entries w ++ map (entry_of w) (needing (touched_of w) born changes)
     → GoBack u born changes

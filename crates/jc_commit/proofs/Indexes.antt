@@ -1,6 +1,7 @@
 -- The index of entries: what is found in it, and one entry more.
 use Rattle.std.proofs.Common.{◌≡◌, ℕ, ◌+◌, ◌-◌, ◌<◌, ◌≤◌, ◌==◌, ◌++◌, true, false, List, [], length, get_or, slice_index, is_ok, MatchResult, sym, subst, ◌∙◌, ap, arith}
-use Rattle.std.proofs.Common.{Result, Ok, Err, inl, inr, insert, eq-eqb, ne_eqb, length-append}
+use Rattle.std.proofs.Common.{Result, Ok, Err, inl, inr, insert, eq-eqb, ne_eqb, length-append, Bool, ◌||◌}
+use Rattle.std.specs.Prelude.{nat_le}
 use Rattle.std.proofs.lemmas.List.{get_or_append_left}
 use Rattle.std.specs.List.{list_any}
 use Rattle.std.proofs.lemmas.Bool.{cases_eq, cases_lt}
@@ -11,6 +12,7 @@ use Rattle.jc_commit.specs.Image.{address_at}
 use Rattle.jc_words.specs.declared.log.Log.{Log}
 use Rattle.jc_commit.specs.Entries.{AreDistinct}
 use Rattle.jc_commit.specs.EntryIndex.{named_by, IsIndexOf, StandsAt, IsGapFor}
+use Rattle.jc_commit.specs.Keep.{is_taken_back}
 
 pub length-named_by : (l : Log) (w : List ℕ) (n : ℕ) → length (named_by l w n) ≡ n
 unfolding named_by
@@ -61,13 +63,18 @@ IsIndexOf-same l w v n numbers same index = record {
   all = index.all;
 }
 
--- and of words whose entries name more
-pub index_later : (l : Log) (w u : List ℕ) (n m : ℕ) (numbers more : List ℕ) → named_by l u m ≡ named_by l w n ++ more → IsIndexOf l w n numbers → IsIndexOf l u n numbers
-index_later l w u n m numbers more names index =
+-- the first entries name the same where all name more
+pub address_later : (l : Log) (w u : List ℕ) (n m : ℕ) (numbers more : List ℕ) → named_by l u m ≡ named_by l w n ++ more → (k : ℕ) → k < n
+    → address_at l u k ≡ address_at l w k
+address_later l w u n m numbers more names k below =
     let long : m ≡ n + length more = sym (length-named_by l u m) ∙ ap (λ (xs : List ℕ). length xs) names ∙ length-append (named_by l w n) more
     ∙ ap (λ (k : ℕ). k + length more) (length-named_by l w n) in
-    IsIndexOf-same l w u n numbers (λ k below. sym (get_or-named_by l u m k 0 (omega (arith, below, long))) ∙ ap (λ (xs : List ℕ). get_or xs k 0) names
-    ∙ get_or_append_left (named_by l w n) more 0 k (omega (arith, below, length-named_by l w n)) ∙ get_or-named_by l w n k 0 below) index
+    sym (get_or-named_by l u m k 0 (omega (arith, below, long))) ∙ ap (λ (xs : List ℕ). get_or xs k 0) names
+    ∙ get_or_append_left (named_by l w n) more 0 k (omega (arith, below, length-named_by l w n)) ∙ get_or-named_by l w n k 0 below
+
+-- and an index is one of words whose entries name more
+pub index_later : (l : Log) (w u : List ℕ) (n m : ℕ) (numbers more : List ℕ) → named_by l u m ≡ named_by l w n ++ more → IsIndexOf l w n numbers → IsIndexOf l u n numbers
+index_later l w u n m numbers more names index = IsIndexOf-same l w u n numbers (address_later l w u n m numbers more names) index
 
 -- what an index is of are different words
 pub index_distinct : (l : Log) (w : List ℕ) (n : ℕ) (numbers : List ℕ) → IsIndexOf l w n numbers → AreDistinct (named_by l w n)
@@ -110,6 +117,26 @@ index_none l w n numbers none empty = subst (λ (ns : List ℕ). IsIndexOf l w n
   rising = λ i j less within. absurd (omega (arith, within));
   all = λ k below. absurd (omega (arith, below, none));
 })
+
+-- whether an abort takes back the word that an entry names, and one that none names and that was not born in the transaction
+pub taken_named : (l : Log) (w numbers : List ℕ) (n born a i : ℕ) → IsIndexOf l w n numbers → StandsAt l w numbers a i → is_taken_back (named_by l w n) born a ≡ true
+taken_named l w numbers n born a i index found = ap (λ (b : Bool). b || nat_le born a) (stands_named l w numbers n a i index found)
+
+pub not_taken_named : (l : Log) (w numbers : List ℕ) (n born a i : ℕ) → IsIndexOf l w n numbers → IsGapFor l w numbers a i → nat_le born a ≡ false
+    → is_taken_back (named_by l w n) born a ≡ false
+not_taken_named l w numbers n born a i index gap young = ap (λ (b : Bool). b || nat_le born a) (gap_named l w numbers n a i index gap) ∙ young
+
+-- a gap for an address is one where entries are the same
+pub gap_later : (l : Log) (w u : List ℕ) (n m a i : ℕ) (numbers more : List ℕ) → named_by l u m ≡ named_by l w n ++ more → IsIndexOf l w n numbers
+    → IsGapFor l w numbers a i → IsGapFor l u numbers a i
+gap_later l w u n m a i numbers more names index gap =
+    let same : (k : ℕ) → k < length numbers → address_at l u (slice_index numbers k) ≡ address_at l w (slice_index numbers k) =
+    λ k within. address_later l w u n m numbers more names (slice_index numbers k) (index.counted k within) in
+    record {
+      within = gap.within;
+      lower = λ k before. subst (λ (x : ℕ). x < a) (sym (same k (omega (arith, before, gap.within)))) (gap.lower k before);
+      higher = λ k behind within. subst (λ (x : ℕ). a < x) (sym (same k within)) (gap.higher k behind within);
+    }
 
 -- one entry more, in its gap
 module _ (l : Log) (w numbers : List ℕ) (n i : ℕ) (index : IsIndexOf l w n numbers) (gap : IsGapFor l w numbers (address_at l w n) i) where

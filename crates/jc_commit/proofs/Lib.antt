@@ -17,3 +17,7 @@ pub mod Writes
 pub mod WordRuns
 pub mod Throughout
 pub mod EntryRuns
+pub mod WordPlaces
+pub mod Inside
+pub mod OneWord
+pub mod KeptWord

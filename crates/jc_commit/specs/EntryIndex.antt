@@ -1,5 +1,6 @@
 -- The entries that a change writes, and their index.
-use Rattle.std.specs.Prelude.{◌≡◌, ℕ, ◌+◌, ◌*◌, ◌<◌, ◌≤◌, not, List, [], ◌∷◌, length, map, filter, slice_index, slice_index_or, slice_set, IsSome, ◌⊎◌}
+use Rattle.std.specs.Prelude.{◌≡◌, ℕ, ◌+◌, ◌*◌, ◌<◌, ◌≤◌, true, false, not, List, [], ◌∷◌, length, map, filter, slice_index, slice_index_or, slice_set, IsSome, ◌⊎◌}
+use Rattle.std.specs.Prelude.{Option, None, Some}
 use Rattle.std.specs.List.{range_with_len}
 use Rattle.jc_commit.specs.Image.{address_at, entries, old_value}
 use Rattle.jc_commit.specs.Keep.{is_taken_back}
@@ -31,6 +32,12 @@ pub record IsGapFor (l : Log) (w numbers : List ℕ) (a i : ℕ) : Type 0 where
   pub within : i ≤ length numbers
   pub lower : (k : ℕ) → k < i → address_at l w (slice_index numbers k) < a
   pub higher : (k : ℕ) → i ≤ k → k < length numbers → a < address_at l w (slice_index numbers k)
+
+-- where the index of the first n entries has to have one more before this address is written: at this place, or nowhere, where an abort takes the word
+-- back as it is
+abbrev pub IsPlaceFor : Log → List ℕ → ℕ → List ℕ → ℕ → ℕ → Option ℕ → Type 0
+IsPlaceFor l w n numbers born a None = is_taken_back (named_by l w n) born a ≡ true
+IsPlaceFor l w n numbers born a (Some i) = (is_taken_back (named_by l w n) born a ≡ false) × IsGapFor l w numbers a i
 
 -- entries of these words are written, from entry k on, each with the word as it is
 abbrev pub with_entries : Log → List ℕ → ℕ → List (ℕ × ℕ) → List ℕ

@@ -1,13 +1,13 @@
 -- What writing did to a store, and what it left of the journal.
-use Rattle.std.specs.Prelude.{◌≡◌, ◌<◌, ◌≤◌, ℕ, ◌+◌, ◌*◌, ◌^◌, Bool, true, false, List, ◌++◌, length, max, slice_index, if◌then◌else◌, MatchBool}
+use Rattle.std.specs.Prelude.{◌≡◌, ◌<◌, ◌≤◌, ℕ, ◌+◌, ◌*◌, ◌^◌, Bool, true, false, List, ◌++◌, length, max, slice_index, if◌then◌else◌, MatchBool, Option}
 use Rattle.jc_words.specs.Count.{saturating_count}
 use Rattle.jc_words.specs.Refusals.{Refusals, refused_once}
 use Rattle.jc_words.specs.Layout.{version, version_address, log_end}
 use Rattle.jc_words.specs.Image.{log_of}
 use Rattle.jc_words.specs.declared.log.Log.{Log}
-use Rattle.jc_commit.specs.Image.{plain_of, recovered_of, touched_of, count_of, limit_of, top_of, with_words, IsGoodLog}
+use Rattle.jc_commit.specs.Image.{plain_of, recovered_of, touched_of, count_of, limit_of, top_of, with_words, IsGoodLog, IsPlace}
 use Rattle.jc_commit.specs.Entries.{addresses_of}
-use Rattle.jc_commit.specs.EntryIndex.{needing, with_entries, IsIndexOf}
+use Rattle.jc_commit.specs.EntryIndex.{needing, with_entries, IsIndexOf, IsPlaceFor}
 use Rattle.jc_commit.specs.Migration.{migrated}
 use Rattle.jc_commit.specs.State.{State, live_words, IsShort}
 
@@ -53,6 +53,15 @@ pub record KeepsTransaction (old new : List ℕ) : Type 0 where
 -- no word from this address on has a meaning in what a recovery leaves: it lies above the top
 abbrev pub IsFreeFrom : List ℕ → ℕ → Type 0
 IsFreeFrom w born = (a : ℕ) → born ≤ a → a < limit_of w → max log_end (top_of (recovered_of w)) ≤ a
+
+-- in a transaction whose n entries have this index, one more stands at this place of it, or nowhere, before the word at this address is written
+pub record MayBeWritten (log : Log) (w : List ℕ) (n : ℕ) (numbers : List ℕ) (born a : ℕ) (at : Option ℕ) : Type 0 where
+  pub stands : HasLog log w
+  pub count : n ≡ count_of w
+  pub index : IsIndexOf log w n numbers
+  pub births : IsFreeFrom w born
+  pub there : IsPlace (limit_of w) a
+  pub place : IsPlaceFor log w n numbers born a at
 
 -- entries of these words are written after the first k ones, and n are there then
 pub record ArePut (log : Log) (k : ℕ) (changes : List (ℕ × ℕ)) (old new : List ℕ) (n : ℕ) : Type 0 where

@@ -27,9 +27,10 @@ pub(crate) fn copy_of(numbers: &EntryIndex) -> EntryIndex
     }
 }
 
-// The end of the index where an entry that names the address stands, or where one would belong, if it is an end: code mostly writes the
-// words of an array in their order, and two bytes of each.
-fn find_at_end<S: WordStore>(
+// The last place of the index, where an entry that names the address stands, or after which one would belong, if it is so: code mostly writes
+// the words of an array in their order, and two bytes of each.
+#[inline(always)]
+pub(crate) fn find_at_last<S: WordStore>(
     store: &S,
     log: Log,
     n: u16,
@@ -55,6 +56,29 @@ fn find_at_end<S: WordStore>(
     if last == address {
         return Some(Ok(count - 1));
     }
+    None
+}
+
+// The first place of the index, likewise.
+#[inline(always)]
+fn find_at_first<S: WordStore>(
+    store: &S,
+    log: Log,
+    n: u16,
+    numbers: &[u16],
+    address: u16,
+) -> Option<Result<usize, usize>>
+    requires few { n ≤ log.capacity }
+    requires size { log.start + 2 * log.capacity ≤ length (S.words store.now) }
+    requires small { log.start + 2 * log.capacity < 2 ^ 16 }
+    requires index { IsIndexOf log (S.words store.now) n numbers.now }
+    ensures { IfSome result (λ place. MatchResult place
+        (λ i. StandsAt log (S.words store.now) numbers.now address i)
+        (λ i. IsGapFor log (S.words store.now) numbers.now address i)) }
+{
+    if numbers.is_empty() {
+        return Some(Err(0));
+    }
     let first = store.read(log.address_word(numbers[0]));
     if address < first {
         return Some(Err(0));
@@ -67,7 +91,7 @@ fn find_at_end<S: WordStore>(
 
 // Where in the index of the first n entries one stands that names the address, or where one would
 // belong.
-fn find<S: WordStore>(
+fn find_within<S: WordStore>(
     store: &S,
     log: Log,
     n: u16,
@@ -81,9 +105,6 @@ fn find<S: WordStore>(
     ensures { MatchResult result (λ i. StandsAt log (S.words store.now) numbers.now address i)
         (λ i. IsGapFor log (S.words store.now) numbers.now address i) }
 {
-    if let Some(end) = find_at_end(store, log, n, numbers, address) {
-        return end;
-    }
     let mut low = 0;
     let mut high = numbers.len();
     while low < high {
@@ -99,6 +120,50 @@ fn find<S: WordStore>(
         }
     }
     Err(low)
+}
+
+// The same, at the first place before the others.
+#[inline(always)]
+pub(crate) fn find_from_first<S: WordStore>(
+    store: &S,
+    log: Log,
+    n: u16,
+    numbers: &[u16],
+    address: u16,
+) -> Result<usize, usize>
+    requires few { n ≤ log.capacity }
+    requires size { log.start + 2 * log.capacity ≤ length (S.words store.now) }
+    requires small { log.start + 2 * log.capacity < 2 ^ 16 }
+    requires index { IsIndexOf log (S.words store.now) n numbers.now }
+    ensures { MatchResult result (λ i. StandsAt log (S.words store.now) numbers.now address i)
+        (λ i. IsGapFor log (S.words store.now) numbers.now address i) }
+{
+    if let Some(first) = find_at_first(store, log, n, numbers, address) {
+        return first;
+    }
+    find_within(store, log, n, numbers, address)
+}
+
+// The same, at the last place before it.
+#[inline(always)]
+fn find<S: WordStore>(
+    store: &S,
+    log: Log,
+    n: u16,
+    numbers: &[u16],
+    address: u16,
+) -> Result<usize, usize>
+    requires few { n ≤ log.capacity }
+    requires size { log.start + 2 * log.capacity ≤ length (S.words store.now) }
+    requires small { log.start + 2 * log.capacity < 2 ^ 16 }
+    requires index { IsIndexOf log (S.words store.now) n numbers.now }
+    ensures { MatchResult result (λ i. StandsAt log (S.words store.now) numbers.now address i)
+        (λ i. IsGapFor log (S.words store.now) numbers.now address i) }
+{
+    if let Some(last) = find_at_last(store, log, n, numbers, address) {
+        return last;
+    }
+    find_from_first(store, log, n, numbers, address)
 }
 
 // Whether one of the first n entries names the address.
@@ -121,7 +186,7 @@ pub(crate) fn is_named<S: WordStore>(
 // Puts a number into the index: at its end without a move of others, as where code writes words in their order.
 #[tactic(auto, using(std::proofs::lemmas::List::Edits::insert_end))]
 #[inline(always)]
-fn insert_at(numbers: &mut EntryIndex, place: usize, n: u16)
+pub(crate) fn insert_at(numbers: &mut EntryIndex, place: usize, n: u16)
     requires within { place ≤ length numbers.old.items }
     requires room { length numbers.old.items < most_capacity }
     ensures { numbers.new.items ≡ insert numbers.old.items place n }

@@ -227,6 +227,7 @@ fn put_needing<S: WordStore, C: WordChanges>(
 }
 
 // Counts the entries, where there are more.
+#[inline(always)]
 fn count_entries<S: WordStore>(store: &mut S, before: u16, behind: u16) -> Result<(), StoreDown>
     requires size { log_end ≤ length (S.words store.old) }
     requires count { before ≡ count_of (S.words store.old) }
@@ -260,7 +261,7 @@ fn write_each<S: WordStore, C: WordChanges>(store: &mut S, changes: &C) -> Resul
 
 // Writes words of which an abort takes each back.
 #[inline(always)]
-fn write_through<S: WordStore, C: WordChanges>(
+pub(crate) fn write_through<S: WordStore, C: WordChanges>(
     store: &mut S,
     born: u16,
     changes: &C,

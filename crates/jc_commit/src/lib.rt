@@ -11,6 +11,7 @@ mod migration;
 mod recovery_law;
 mod refusal;
 mod undo;
+mod word;
 
 pub use changes::{LONGEST_WORD_RUN, WordChanges, WordRun};
 pub use journal::Journal;

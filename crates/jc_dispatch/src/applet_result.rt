@@ -67,7 +67,7 @@ pub(crate) fn result_of_run<S: WordStore>(
     match outcome {
         Outcome::Void => AppletResult::Done,
         Outcome::Thrown(exception) => result_of_exception(exception, memory, linked),
-        Outcome::Short(_) | Outcome::Reference(_) | Outcome::Fault => AppletResult::Unknown,
+        _ => AppletResult::Unknown,
     }
 }
 

@@ -3,11 +3,12 @@ ghost use Rattle.std.specs.Prelude.{◌≡◌, ◌≤◌, false, length};
 ghost use Rattle.jc_transient.specs.State.{buffer_size};
 ghost use Rattle.jc_memory.specs.Programs.{Executes};
 ghost use Rattle.jc_heap.specs.Completions.{Completed};
+ghost use Rattle.jc_dispatch.specs.Select.{header_of};
 ghost use Rattle.jc_dispatch.specs.Buffer.{apdu_buffer, apdu_object, buffer_fill, is_buffer};
 
 use jc_environment::{APDU_BUFFER, APDU_OBJECT};
 use jc_heap::{Facts, Kind};
-use jc_memory::Memory;
+use jc_memory::{Memory, header_length};
 use jc_transient::{BUFFER_CELLS, Ref};
 use jc_words::WordStore;
 
@@ -52,5 +53,27 @@ pub(crate) fn fill<S: WordStore>(bytes: &[u8], memory: &mut Memory<S>)
     if is_buffer(facts) {
         let zeros = facts.length - bytes.len() as u16;
         memory.fill(buffer, event, bytes, zeros);
+    }
+}
+
+/// The buffer holds the bytes of the command before its data, and zeros after them.
+#[tactic(auto, unfolding(crate::specs::Buffer::buffer_fill))]
+#[inline(always)]
+pub(crate) fn fill_header<S: WordStore>(memory: &mut Memory<S>)
+    requires up { memory.old.heap.down ≡ false }
+    ensures { Executes (buffer_fill memory.old (header_of memory.old.command)) memory.old
+        (Completed tt memory.new) }
+{
+    let buffer = apdu_buffer(memory);
+    let Some(facts) = memory.header(buffer) else {
+        return;
+    };
+    let Some(event) = facts.event else {
+        return;
+    };
+    if is_buffer(facts) {
+        let command = memory.command();
+        let count = command.len().min(header_length(command)) as u16;
+        memory.fill_from_command(buffer, event, count, facts.length - count);
     }
 }

@@ -12,7 +12,7 @@ use jc_interp::begin;
 use jc_interp::run::run_methods;
 use jc_linker::linked::Linked;
 use jc_linker::target::Method;
-use jc_memory::{AppletNumber, Memory, Notes, Owner, Phase, Registers};
+use jc_memory::{AppletNumber, Memory, Notes, Owner, Phase};
 use jc_platform::names::{AppletsMethod, PlatformMethod};
 use jc_transient::Ref;
 use jc_words::{StoreDown, WordStore};
@@ -33,28 +33,6 @@ pub(crate) struct AppletCall<'a> {
     pub(crate) instance: Ref,
     pub(crate) arguments: &'a [Cell],
     pub(crate) owner: Owner,
-}
-
-// Code runs for an owner, at the runtime environment's call.
-fn registers_for(owner: Owner, registers: Registers) -> Registers
-    ensures { result ≡ registers_for owner registers }
-{
-    Registers {
-        active: owner,
-        previous: Owner::Runtime,
-        ..registers
-    }
-}
-
-// No code runs.
-fn registers_idle(registers: Registers) -> Registers
-    ensures { result ≡ registers_idle registers }
-{
-    Registers {
-        active: Owner::Runtime,
-        previous: Owner::Runtime,
-        ..registers
-    }
 }
 
 /// Runs a method for an owner, in frames that may be those of an earlier run. The answer is what is left of the command's instructions, and
@@ -90,11 +68,9 @@ pub(crate) fn run_for<S: WordStore>(
     let Ok(()) = begun else {
         return Ok((budget.left, Outcome::Fault));
     };
-    let registers = memory.registers();
-    memory.set_registers(registers_for(owner, registers));
+    memory.set_owners(owner, Owner::Runtime);
     let end = run_methods(budget, frames, memory, linked)?;
-    let registers = memory.registers();
-    memory.set_registers(registers_idle(registers));
+    memory.set_owners(Owner::Runtime, Owner::Runtime);
     Ok(end)
 }
 

@@ -1,18 +1,17 @@
 //! The commands that an applet answers.
-ghost use Rattle.std.specs.Prelude.{OnOk, ◌≡◌, ◌≤◌, false, length};
+ghost use Rattle.std.specs.Prelude.{OnOk, ◌≡◌, false};
 ghost use Rattle.jc_memory.specs.Programs.{Executes};
 ghost use Rattle.jc_heap.specs.Completions.{after_step};
-ghost use Rattle.jc_dispatch.specs.Select.{header_of, process_command, with_command};
+ghost use Rattle.jc_dispatch.specs.Select.{process_command, with_command};
 
 use crate::applet_result::{AppletResult, result_of_run};
-use crate::buffer::{apdu_object, fill};
+use crate::buffer::{apdu_object, fill_header};
 use crate::closing::close;
 use crate::phase::{AppletCall, call_applet_method, instance_of};
-use arrayvec::ArrayVec;
 use jc_frames::{Cell, Frames};
 use jc_interp::attacks::Budget;
 use jc_linker::linked::Linked;
-use jc_memory::{ApduPhase, ApduState, AppletNumber, Memory, Owner, Registers, header_length};
+use jc_memory::{ApduPhase, ApduState, AppletNumber, Memory, Owner, Registers};
 use jc_platform::names::{AppletsMethod, PlatformMethod};
 use jc_words::{StoreDown, WordStore};
 
@@ -40,16 +39,6 @@ fn with_command(expected: u16, selecting: bool, registers: Registers) -> Registe
     }
 }
 
-// The bytes of a command before its data: five, of which the fifth may be missing, or in the extended form seven.
-fn header_of(bytes: &[u8]) -> ArrayVec<u8, 7>
-    ensures header { result.items ≡ header_of bytes.now }
-    ensures few { length result.items ≤ 7 }
-{
-    let mut header = ArrayVec::new();
-    let _ = header.try_extend_from_slice(&bytes[..bytes.len().min(header_length(bytes))]);
-    header
-}
-
 /// An applet answers the command that was begun, in frames that may be those of an earlier run.
 #[tactic(auto, unfolding(crate::specs::Select::process_command), using(jc_memory::proofs::ProgramLemmas::in_two_steps))]
 #[inline(always)]
@@ -72,8 +61,7 @@ pub fn process<S: WordStore>(
     } = command;
     let registers = memory.registers();
     memory.set_registers(with_command(expected, selecting, registers));
-    let header = header_of(memory.command());
-    fill(&header, memory);
+    fill_header(memory);
     let instance = instance_of(applet, memory);
     let arguments = [
         Cell::Reference(instance),

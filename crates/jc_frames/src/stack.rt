@@ -48,11 +48,11 @@ impl Frames {
         ensures taken { reference_on self.old.current.stack ≡ popped result self.new.current.stack }
         ensures room { OnOk result (length self.new.current.stack < self.new.current.limit) }
     {
-        let Some(Cell::Reference(_)) = self.peek(0) else {
-            return Err(CodeFault);
-        };
-        match self.pop()? {
-            Cell::Reference(r) => Ok(r),
+        match self.peek(0).ok_or(CodeFault)? {
+            Cell::Reference(r) => {
+                self.pop()?;
+                Ok(r)
+            }
             _ => Err(CodeFault),
         }
     }

@@ -28,7 +28,7 @@ image-next at ws there more =
     ∙ ap (λ b. if b then Some (at + 1) else image_from (records_from part_sizes 0 (at + (2 + words_for (get_or ws 1 0)))
     (drop (2 + words_for (get_or ws 1 0)) ws))) (ne_eqb (get_or (take (2 + words_for (get_or ws 1 0)) ws) 0 0) 0 (λ e. more (sym first ∙ e)))
 
-image-none : (at : ℕ) (ws : List ℕ) → length ws ≡ 0 → image_from (records_from part_sizes 0 at ws) ≡ None
+pub image-none : (at : ℕ) (ws : List ℕ) → length ws ≡ 0 → image_from (records_from part_sizes 0 at ws) ≡ None
 image-none at [] e = refl
 image-none at (w ∷ ws) e = absurd (omega arith)
 

@@ -4,7 +4,6 @@ ghost use Rattle.jc_words.specs.Layout.{text_start};
 ghost use Rattle.jc_heap.specs.Component.{record_of, record_parts};
 ghost use Rattle.jc_heap.specs.Statics.{image_from, statics_of, IsStatic};
 
-use crate::component::words_for;
 use crate::heap::Heap;
 use jc_commit::Journal;
 use jc_transient::Ref;
@@ -17,16 +16,16 @@ fn find_image<S: WordStore>(journal: &Journal<S>, base: u16, long: u16) -> Optio
     requires small { length journal.now.plain < 65536 }
     ensures { result ≡ image_from (record_parts (take long (drop base journal.now.plain))) }
 {
-    let mut at = 1;
-    while at < u32::from(long) {
-        let word = journal.read(base + at as u16);
-        if word == 0 {
-            return Some(at as u16 + 1);
+    let end = u32::from(base + long);
+    let mut second = u32::from(base) + 2;
+    while second < end {
+        if journal.read(second as u16 - 1) == 0 {
+            return Some(second as u16 - base);
         }
-        if at + 1 == u32::from(long) {
-            return None;
-        }
-        at += 2 + words_for(journal.read(base + at as u16 + 1));
+        second += (u32::from(journal.read(second as u16)) + 5) / 2;
+    }
+    if second == end && journal.read(second as u16 - 1) == 0 {
+        return Some(second as u16 - base);
     }
     None
 }

@@ -5,3 +5,5 @@ mod Few
 pub mod Handlers
 pub mod Implementing
 mod Same
+pub mod Receivers
+mod TopCells

@@ -6,6 +6,7 @@ pub mod StaticFields
 pub mod FieldOps
 pub mod ArrayElements
 pub mod ArrayAccess
+pub mod AtOnce
 pub mod ArrayCreation
 pub mod ArrayOps
 pub mod ObjectTypes

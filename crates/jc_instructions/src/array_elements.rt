@@ -26,9 +26,9 @@ pub struct Element {
     pub class: ClassWord,
 }
 
-// Whether an object's elements are of this type.
+/// Whether an object's elements are of this type.
 #[inline(always)]
-fn has_elements(of_type: ValueType, kind: Kind) -> bool
+pub(crate) fn has_elements(of_type: ValueType, kind: Kind) -> bool
     ensures { result ≡ has_elements of_type kind }
 {
     match of_type {

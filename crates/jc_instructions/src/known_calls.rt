@@ -10,6 +10,7 @@ ghost use Rattle.jc_firewall.specs.declared.access.Access.TheVariants.{VirtualCa
 ghost use Rattle.jc_firewall.specs.declared.decide.Decision.TheVariants.{Switch};
 ghost use Rattle.jc_firewall.specs.declared.subject.Context.TheVariants.{Jcre};
 ghost use Rattle.jc_world.specs.Contexts.{firewall_decision};
+ghost use Rattle.jc_frames.specs.Calls.{arguments_on};
 ghost use Rattle.jc_platform.specs.Signatures.{argument_cells};
 ghost use Rattle.jc_instructions.specs.Invoke.{ChoosesOfPlatform, IsFoundAt, IsFoundCode, IsSwitchedTo, arguments_of, call_of_code, invokeinterface, invokevirtual};
 ghost use Rattle.jc_instructions.specs.Invoke.{class_of, header_of, interface_access};
@@ -22,7 +23,7 @@ use crate::parameters::{fits, native_fits};
 use jc_cap::pool::VirtualToken;
 use jc_firewall::access::Access;
 use jc_firewall::decide::Decision;
-use jc_frames::{Frames, Header, header_at};
+use jc_frames::{Cell, Frames, Header, header_at};
 use jc_heap::Facts;
 use jc_linker::linked::Linked;
 use jc_linker::target::{Method, Target};
@@ -56,6 +57,20 @@ fn found_below(
     }
 }
 
+// The same in line: its answer has memory of its own.
+#[inline(always)]
+fn other_found_below(
+    own: ClassWord,
+    class: ClassWord,
+    token: VirtualToken,
+    method: PlatformMethod,
+    linked: &Linked,
+) -> Option<PlatformMethod>
+    ensures { IfSome result (IsFoundAt linked.now own class token method) }
+{
+    found_below(own, class, token, method, linked)
+}
+
 // The same where the class may be the one that the entry names.
 #[tactic(auto, using(crate::proofs::Same::method_itself, jc_world::proofs::Below::below_same, jc_linker::proofs::Inheriting::inherited_below, jc_linker::proofs::Inheriting::inherited_found))]
 #[inline(always)]
@@ -76,7 +91,7 @@ fn found_at(
             return Some(method);
         }
     }
-    found_below(own, class, token, method, linked)
+    other_found_below(own, class, token, method, linked)
 }
 
 // An object of the runtime environment that no deselection clears, while code of an applet or a package runs: a virtual call goes on in the
@@ -121,26 +136,46 @@ fn native_owner<S: WordStore>(
     switched_owner(Access::VirtualCall, receiver, memory, linked)
 }
 
+// The arguments of a call that has this many, and the first of them, which is a reference: the receiver.
+#[tactic(auto, using(crate::proofs::Receivers::first_received))]
+#[inline(always)]
+fn arguments_with_receiver(count: u8, frames: &Frames) -> Option<(&[Cell], Ref)>
+    ensures arguments { IfSome result (λ r. arguments_on count frames.entry.now.current.stack
+        ≡ Some r.0.now) }
+    ensures receiver { IfSome result (λ r. receiver_on count frames.entry.now.current.stack
+        ≡ Some r.1) }
+{
+    let arguments = frames.arguments(count)?;
+    match arguments.first() {
+        Some(Cell::Reference(receiver)) => Some((arguments, *receiver)),
+        _ => None,
+    }
+}
+
 // The method of the platform that a virtual call runs whose entry names one with this many cells, where the arguments are of the kinds that
 // it wants and no rule refuses the call; else nothing.
 #[tactic(auto, unfolding(crate::specs::Invoke::invokevirtual, crate::specs::Invoke::arguments_of, crate::specs::Invoke::receiver_of, crate::specs::Parameters::fits))]
 #[inline(always)]
-fn virtual_of_platform<S: WordStore>(
+fn virtual_of_platform<'f, S: WordStore>(
     class: ClassWord,
     token: VirtualToken,
     method: PlatformMethod,
     count: u8,
-    frames: &Frames,
+    frames: &'f Frames,
     memory: &Memory<S>,
     linked: &Linked,
-) -> Option<PlatformMethod>
+) -> Option<(PlatformMethod, &'f [Cell])>
     requires up { memory.now.heap.down ≡ false }
     requires cells { count ≡ argument_cells method }
-    ensures chosen { IfSome result (ChoosesOfPlatform (invokevirtual class token (Native method)
-        linked.now frames.now.current.stack memory.now)) }
-    ensures cells { IfSome result (λ found. argument_cells found ≡ count) }
+    ensures chosen { IfSome result (λ r. ChoosesOfPlatform (invokevirtual class token
+        (Native method) linked.now frames.entry.now.current.stack memory.now) r.0) }
+    ensures cells { IfSome result (λ r. argument_cells r.0 ≡ count) }
+    ensures arguments { IfSome result (λ r. arguments_on count frames.entry.now.current.stack
+        ≡ Some r.1.now) }
 {
-    let receiver = receiver_on(count, frames)?;
+    let Some((arguments, receiver)) = arguments_with_receiver(count, frames) else {
+        return None;
+    };
     if receiver.is_null() {
         return None;
     }
@@ -152,22 +187,24 @@ fn virtual_of_platform<S: WordStore>(
         return None;
     }
     let _owner = native_owner(facts, receiver, memory, linked)?;
-    Some(found)
+    Some((found, arguments))
 }
 
-/// The method of the platform that a virtual call by this entry runs, and how many cells its arguments have, where that is known at once;
+/// The method of the platform that a virtual call by this entry runs, how many cells its arguments have, and these, where that is known at once;
 /// else, and of other entries, nothing.
 #[inline(always)]
-pub fn method_of_platform<S: WordStore>(
+pub fn method_of_platform<'f, S: WordStore>(
     entry: &Target,
-    frames: &Frames,
+    frames: &'f Frames,
     memory: &Memory<S>,
     linked: &Linked,
-) -> Option<(PlatformMethod, u8)>
+) -> Option<(PlatformMethod, u8, &'f [Cell])>
     requires up { memory.now.heap.down ≡ false }
     ensures chosen { IfSome result (λ r. ChoosesOfPlatform (virtual_by
-        (Some entry.now) linked.now frames.now.current.stack memory.now) r.0) }
+        (Some entry.now) linked.now frames.entry.now.current.stack memory.now) r.0) }
     ensures cells { IfSome result (λ r. r.1 ≡ argument_cells r.0) }
+    ensures arguments { IfSome result (λ r. arguments_on r.1 frames.entry.now.current.stack
+        ≡ Some r.2.now) }
 {
     match entry {
         Target::VirtualMethod {
@@ -176,10 +213,11 @@ pub fn method_of_platform<S: WordStore>(
             method: Method::Native(method),
         } => {
             let count = method.argument_cells();
-            let found = virtual_of_platform(
-                *class, *token, *method, count, frames, memory, linked,
-            )?;
-            Some((found, count))
+            let known = virtual_of_platform(*class, *token, *method, count, frames, memory, linked);
+            let Some((found, arguments)) = known else {
+                return None;
+            };
+            Some((found, count, arguments))
         }
         _ => None,
     }

@@ -4,6 +4,7 @@
 mod array_access;
 mod array_creation;
 mod array_elements;
+pub mod at_once;
 pub mod catch;
 pub mod enter;
 mod field_names;

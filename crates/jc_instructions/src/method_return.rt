@@ -2,26 +2,14 @@
 ghost use Rattle.std.specs.Prelude.{◌≡◌};
 ghost use Rattle.jc_memory.specs.Programs.{Executes};
 ghost use Rattle.jc_world.specs.Instructions.{after_instruction};
-ghost use Rattle.jc_instructions.specs.MethodReturn.{registers_of_caller, method_return};
+ghost use Rattle.jc_instructions.specs.MethodReturn.{method_return};
 
 use jc_frames::instr::ReturnOp;
 use jc_frames::return_ops::pop_result;
-use jc_frames::{Frames, Outcome, ReturnPoint};
-use jc_memory::{Memory, Owner, Registers};
+use jc_frames::{Frames, Outcome};
+use jc_memory::{Memory, Owner};
 use jc_words::WordStore;
 use jc_world::StepExit;
-
-// The registers as they were before a call.
-#[inline(always)]
-pub(crate) fn registers_of_caller(resume: ReturnPoint, registers: Registers) -> Registers
-    ensures { result ≡ registers_of_caller resume registers }
-{
-    Registers {
-        active: Owner::of(resume.active),
-        previous: Owner::of(resume.previous),
-        ..registers
-    }
-}
 
 /// `areturn`, `sreturn`, `return`: ends the method with the value on top, if the instruction has one: its
 /// caller goes on with it, for whom it ran before, or the run ends with it where nothing called the method.
@@ -40,7 +28,7 @@ pub fn return_to_caller<S: WordStore>(
         return Err(StepExit::End(Outcome::of_value(value)));
     };
     let call = resume.call;
-    memory.set_registers(registers_of_caller(resume, memory.registers()));
+    memory.set_owners(Owner::of(resume.active), Owner::of(resume.previous));
     frames.receive(call, value)?;
     Ok(())
 }

@@ -9,14 +9,13 @@ ghost use Rattle.jc_instructions.specs.Throw.{has_reason_cell, handler_entry, at
 ghost use Rattle.jc_instructions.specs.Throw.{with_reason};
 
 use crate::catch::{HandlerResult, catch_in_method};
-use crate::method_return::registers_of_caller;
 use crate::notes::note_exception;
 use jc_environment::own_place;
 use jc_firewall::access::Access;
 use jc_frames::{CallKind, Cell, CodeFault, Exception, Frames, Outcome};
 use jc_heap::Facts;
 use jc_linker::linked::Linked;
-use jc_memory::{FaultKind, Memory};
+use jc_memory::{FaultKind, Memory, Owner};
 use jc_platform::names::PlatformClass;
 use jc_platform::table::Table;
 use jc_transient::{CellValue, ClassWord, Ref};
@@ -61,7 +60,7 @@ fn unwind<S: WordStore>(
             };
             let call = resume.call;
             let place = resume.place;
-            memory.set_registers(registers_of_caller(resume, memory.registers()));
+            memory.set_owners(Owner::of(resume.active), Owner::of(resume.previous));
             match call {
                 CallKind::Instruction => unwind(class, thrown, place, frames, memory, linked),
                 CallKind::ShareableRequest => {

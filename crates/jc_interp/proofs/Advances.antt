@@ -9,7 +9,10 @@ use Rattle.jc_interp.specs.declared.frames_only.PausedStep.{PausedStep}
 use Rattle.jc_interp.specs.Attacks.{IsAway, attacked}
 use Rattle.jc_interp.specs.Step.{code_of, instruction_step, machine_step}
 use Rattle.jc_interp.specs.Run.{run_of}
-use Rattle.jc_interp.specs.PausedSteps.{run_behind, run_rest, paused_rest}
+use Rattle.jc_interp.specs.declared.frames_only.FramesExit.{FramesExit}
+use Rattle.jc_interp.specs.declared.frames_only.FramesExit.TheVariants.{Exit, Needs}
+use Rattle.jc_frames.specs.declared.outcome.FrameExit.TheVariants.{Throw, End}
+use Rattle.jc_interp.specs.PausedSteps.{run_behind, run_rest, paused_rest, WhereNeeded}
 
 -- where no attack is planned, none comes
 pub none_away : (most least : ℕ) → IsAway None most least
@@ -58,6 +61,13 @@ module _ (attack : Option Attack) (lent code : List ℕ) (p : Packages) (s t : F
       → run_of attack (limit - turn + more) lent p s m ≡ run_behind (Some (limit - (turn + 1), pause)) attack more lent p t m
   pauses pause at e = ap (λ n. run_of attack n lent p s m) (one_left limit turn more lt)
       ∙ one_pauses attack lent code p s t m own (limit - (turn + 1) + more) away_here pause at e
+
+-- an instruction that is done at once needed more than frames
+pub needed : (why : FramesExit) (T : Type 0) (place : ℕ) (p : Packages) (s t : Frames) (m : MemoryState) → paused_rest why place p s m ≡ continue_with t
+    → WhereNeeded why T → T
+needed (Exit (Throw e)) T place p s t m done kept = cc
+needed (Exit (End o)) T place p s t m done kept = cc
+needed (Needs instr) T place p s t m done kept = kept
 
 pub used_up : (attack : Option Attack) (n more : ℕ) (lent : List ℕ) (p : Packages) (s : Frames) (m : MemoryState) → n ≡ 0
     → run_of attack (n + more) lent p s m ≡ run_behind None attack more lent p s m

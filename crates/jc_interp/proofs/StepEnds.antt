@@ -1,5 +1,5 @@
 -- The end of a step: an instruction was carried out, and what it throws is thrown.
-use Rattle.std.proofs.Common.{◌≡◌, ℕ, refl, sym, subst}
+use Rattle.std.proofs.Common.{ℕ, sym, subst}
 use Rattle.jc_memory.specs.State.{MemoryState}
 use Rattle.jc_memory.specs.Programs.{Program, Executes, bind}
 use Rattle.jc_heap.specs.Completions.{Completion, Completed, Torn}

@@ -30,6 +30,11 @@ memory_instruction (Object operation) place p s m = object_instruction operation
 memory_instruction (Invoke method) place p s m = invoke_instruction method place p s m
 memory_instruction other place p s m = Finish (Ends Fault)
 
+-- this holds where an instruction needs more than frames
+abbrev pub WhereNeeded : FramesExit → Type 0 → Type 0
+WhereNeeded (Exit stop) T = Unit {0}
+WhereNeeded (Needs instr) T = T
+
 -- what is left of an instruction at a place, if the code has it
 abbrev pub paused_rest : FramesExit → ℕ → Packages → Frames → MemoryState → Program (Next Frames)
 paused_rest (Exit stop) place p s m = exit_of s stop

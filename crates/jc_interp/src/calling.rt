@@ -1,6 +1,6 @@
 //! Calls: methods of the platform are carried out at once, those in bytecode get a frame.
 ghost use Rattle.std.specs.Prelude.{◌≡◌, false, IfSome, Some, Ok};
-ghost use Rattle.jc_frames.specs.declared.instr.InvokeOp.TheVariants.{Static, Virtual};
+ghost use Rattle.jc_frames.specs.declared.instr.InvokeOp.TheVariants.{Interface, Special, Static, Virtual};
 ghost use Rattle.jc_frames.specs.declared.method.CallKind.TheVariants.{Instruction};
 ghost use Rattle.jc_linker.specs.declared.target.Method.TheVariants.{Code, Native};
 ghost use Rattle.jc_linker.specs.Lookups.{target_at};
@@ -226,9 +226,49 @@ fn invoke_other<S: WordStore>(
     invoke_selected(chosen, place, frames, memory, linked)
 }
 
-// A virtual call by the instruction at a place whose entry names a method of the platform, out of line. Where the one that it runs is known
-// at once, no more is asked.
-#[tactic(auto, unfolding(crate::specs::Calling::invoke_instruction, jc_instructions::specs::Invoke::method_selection))]
+// A virtual call by the instruction at a place whose method is not known at once. What is handed over has memory of its own.
+#[inline(always)]
+fn invoke_unknown<S: WordStore>(
+    index: u16,
+    place: u16,
+    frames: &mut Frames,
+    memory: &mut Memory<S>,
+    linked: &Linked,
+) -> Result<(), StepExit>
+    requires up { memory.old.heap.down ≡ false }
+    ensures { Executes (invoke_instruction (Virtual index) place linked.now frames.old memory.old)
+        memory.old (after_instruction result frames.new memory.new) }
+{
+    invoke_other(InvokeOp::Virtual(index), place, frames, memory, linked)
+}
+
+// A virtual call by the instruction at a place whose entry names a method of the platform. Where the one that it runs is known at once, no more
+// is asked.
+#[tactic(auto, using(jc_memory::proofs::ProgramLemmas::in_two_calls), unfolding(crate::specs::Calling::invoke_instruction, crate::specs::Calling::native_invoke, jc_instructions::specs::Invoke::method_selection))]
+#[inline(always)]
+fn call_of_platform<S: WordStore>(
+    entry: &Target,
+    index: u16,
+    place: u16,
+    frames: &mut Frames,
+    memory: &mut Memory<S>,
+    linked: &Linked,
+) -> Result<(), StepExit>
+    requires up { memory.old.heap.down ≡ false }
+    requires entry { Some entry.now ≡ target_at linked.now frames.old.current.origin.package_number
+        index }
+    ensures { Executes (invoke_instruction (Virtual index) place linked.now frames.old memory.old)
+        memory.old (after_instruction result frames.new memory.new) }
+{
+    let Some((method, cells, arguments)) = method_of_platform(entry, frames, memory, linked) else {
+        return invoke_unknown(index, place, frames, memory, linked);
+    };
+    let answered = call_native(method, arguments, memory, linked)?;
+    frames.discard(cells);
+    answer(answered, place, frames, memory, linked)
+}
+
+// The same out of line. Where code goes on, it leaves by a way of its own, which hands on nothing of an exit.
 #[inline(never)]
 fn invoke_of_platform<S: WordStore>(
     entry: &Target,
@@ -244,10 +284,11 @@ fn invoke_of_platform<S: WordStore>(
     ensures { Executes (invoke_instruction (Virtual index) place linked.now frames.old memory.old)
         memory.old (after_instruction result frames.new memory.new) }
 {
-    match method_of_platform(entry, frames, memory, linked) {
-        Some((method, count)) => { carry_out_native(method, count, place, frames, memory, linked) }
-        None => invoke_other(InvokeOp::Virtual(index), place, frames, memory, linked),
+    let ended = call_of_platform(entry, index, place, frames, memory, linked);
+    if ended.is_err() {
+        return ended;
     }
+    Ok(())
 }
 
 // A static call of a method in bytecode by the instruction at a place.
@@ -276,7 +317,7 @@ fn invoke_static_code<S: WordStore>(
     enter(Some(header), callee, called_at(place), frames, memory)
 }
 
-// A static call of a method of the platform, out of line.
+// A static call of a method of the platform, out of line, which leaves likewise.
 #[tactic(auto, unfolding(jc_instructions::specs::Invoke::invokestatic, jc_instructions::specs::Invoke::arguments_of))]
 #[inline(never)]
 fn invoke_static_native<S: WordStore>(
@@ -293,14 +334,29 @@ fn invoke_static_native<S: WordStore>(
     if method.is_constructor() {
         return Err(StepExit::End(Outcome::Fault));
     }
-    carry_out_native(
-        method,
-        method.argument_cells(),
-        place,
-        frames,
-        memory,
-        linked,
-    )
+    let count = method.argument_cells();
+    let ended = carry_out_native(method, count, place, frames, memory, linked);
+    if ended.is_err() {
+        return ended;
+    }
+    Ok(())
+}
+
+// The same in line: its answer has memory of its own.
+#[inline(always)]
+fn call_static_native<S: WordStore>(
+    method: PlatformMethod,
+    place: u16,
+    frames: &mut Frames,
+    memory: &mut Memory<S>,
+    linked: &Linked,
+) -> Result<(), StepExit>
+    requires up { memory.old.heap.down ≡ false }
+    ensures { Executes (static_invoke (Native method) place linked.now frames.old memory.old)
+        memory.old (after_instruction result frames.new memory.new) }
+{
+    invoke_static_native(method, place, frames, memory, linked)?;
+    Ok(())
 }
 
 // A static call by the instruction at a place.
@@ -332,7 +388,7 @@ fn invoke_static<S: WordStore>(
                 class: _,
                 method: Method::Native(method),
             },
-        ) => invoke_static_native(*method, place, frames, memory, linked),
+        ) => call_static_native(*method, place, frames, memory, linked),
         _ => Err(StepExit::End(Outcome::Fault)),
     }
 }
@@ -383,7 +439,7 @@ fn invoke_virtual_code<S: WordStore>(
             );
         }
     }
-    invoke_other(InvokeOp::Virtual(index), place, frames, memory, linked)
+    invoke_unknown(index, place, frames, memory, linked)
 }
 
 // A virtual call by the instruction at a place.
@@ -412,6 +468,51 @@ fn invoke_virtual<S: WordStore>(
     }
 }
 
+// A call of a constructor, of a private method or of a method of a superclass by the instruction at a place. What is handed over has memory of its
+// own.
+#[inline(always)]
+fn invoke_special<S: WordStore>(
+    index: u16,
+    place: u16,
+    frames: &mut Frames,
+    memory: &mut Memory<S>,
+    linked: &Linked,
+) -> Result<(), StepExit>
+    requires up { memory.old.heap.down ≡ false }
+    ensures { Executes (invoke_instruction (Special index) place linked.now frames.old memory.old)
+        memory.old (after_instruction result frames.new memory.new) }
+{
+    invoke_other(InvokeOp::Special(index), place, frames, memory, linked)
+}
+
+// A call of an interface's method, likewise.
+#[inline(always)]
+fn invoke_interface<S: WordStore>(
+    arguments: u8,
+    index: u16,
+    token: u8,
+    place: u16,
+    frames: &mut Frames,
+    memory: &mut Memory<S>,
+    linked: &Linked,
+) -> Result<(), StepExit>
+    requires up { memory.old.heap.down ≡ false }
+    ensures { Executes (invoke_instruction (Interface arguments index token) place linked.now
+        frames.old memory.old) memory.old (after_instruction result frames.new memory.new) }
+{
+    invoke_other(
+        InvokeOp::Interface {
+            arguments,
+            index,
+            token,
+        },
+        place,
+        frames,
+        memory,
+        linked,
+    )
+}
+
 /// A call by the instruction at a place. Static calls of methods in bytecode stay in line; what comes after the choice of any other method needs
 /// memory for what the choice hands over, and stands out of line: the loop of all instructions has to stay small enough to stand in one function.
 #[inline(always)]
@@ -429,6 +530,11 @@ pub(crate) fn invoke_instruction<S: WordStore>(
     match invoke {
         InvokeOp::Static(index) => invoke_static(index, place, frames, memory, linked),
         InvokeOp::Virtual(index) => invoke_virtual(index, place, frames, memory, linked),
-        _ => invoke_other(invoke, place, frames, memory, linked),
+        InvokeOp::Special(index) => invoke_special(index, place, frames, memory, linked),
+        InvokeOp::Interface {
+            arguments,
+            index,
+            token,
+        } => invoke_interface(arguments, index, token, place, frames, memory, linked),
     }
 }

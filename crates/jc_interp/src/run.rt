@@ -38,7 +38,7 @@ fn run_part<S: WordStore>(
     let mut left = budget;
     let mut number = frames.origin().package_number;
     let mut code = code_of(lent, number, linked);
-    while let Some((rest, pause)) = run_in_frames::<S>(code, left, frames) {
+    while let Some((rest, pause)) = run_in_frames::<S, S>(code, left, frames, memory, linked) {
         left = rest;
         match finish(&pause, frames, memory, linked) {
             Ok(()) => {}

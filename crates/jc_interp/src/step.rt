@@ -1,6 +1,7 @@
 //! What is left of a step where frames alone do not go on, and the exception that it throws.
 ghost use Rattle.std.specs.Prelude.{◌≡◌, ◌<◌, ◌^◌, ◌==◌, false, length, if◌then◌else◌, Ok, Err};
 ghost use Rattle.jc_frames.specs.declared.instr.Instr.TheVariants.{Return};
+ghost use Rattle.jc_instructions.specs.ArrayCreation.{newarray, anewarray};
 ghost use Rattle.jc_instructions.specs.MethodReturn.{method_return};
 ghost use Rattle.jc_frames.specs.declared.outcome.Outcome.TheVariants.{Fault};
 ghost use Rattle.jc_frames.specs.declared.exceptions.Exception.{Exception};
@@ -12,7 +13,7 @@ ghost use Rattle.jc_interp.specs.PausedSteps.{EndsStep, step_rest, memory_instru
 
 use crate::calling::invoke_instruction;
 use crate::frames_only::{FramesExit, PausedStep};
-use jc_frames::instr::{ArrayOp, Instr, ObjectOp, ReturnOp};
+use jc_frames::instr::{ArrayOp, Instr, ObjectOp, PrimitiveArray, ReturnOp};
 use jc_frames::{Frames, Outcome};
 use jc_instructions::method_component::method_component_of;
 use jc_instructions::method_return::return_to_caller;
@@ -60,6 +61,23 @@ fn object_instruction<S: WordStore>(
     }
 }
 
+// The same in line: its answer has memory of its own.
+#[inline(always)]
+fn make_or_test<S: WordStore>(
+    operation: ObjectOp,
+    place: u16,
+    frames: &mut Frames,
+    memory: &mut Memory<S>,
+    linked: &Linked,
+) -> Result<(), StepExit>
+    requires up { memory.old.heap.down ≡ false }
+    ensures { Executes (object_instruction operation place linked.now frames.old memory.old)
+        memory.old (after_instruction result frames.new memory.new) }
+{
+    object_instruction(operation, place, frames, memory, linked)?;
+    Ok(())
+}
+
 // Code that was lent has no such instruction.
 #[inline(always)]
 fn in_package(frames: &Frames) -> Result<(), StepExit>
@@ -82,13 +100,41 @@ fn return_if_had<S: WordStore>(
     ensures { Executes (if_had (Return how) frames.old (method_return how frames.old memory.old))
         memory.old (after_instruction result frames.new memory.new) }
 {
-    match how {
-        ReturnOp::Areturn => {
-            in_package(frames)?;
-            return_to_caller(how, frames, memory)
-        }
-        ReturnOp::Sreturn | ReturnOp::Return => return_to_caller(how, frames, memory),
+    if let ReturnOp::Areturn = how {
+        in_package(frames)?;
     }
+    return_to_caller(how, frames, memory)
+}
+
+// `newarray`: the answer of the call out of line has memory of its own.
+#[inline(always)]
+fn make_array<S: WordStore>(
+    of_type: PrimitiveArray,
+    frames: &mut Frames,
+    memory: &mut Memory<S>,
+) -> Result<(), StepExit>
+    requires up { memory.old.heap.down ≡ false }
+    ensures { Executes (newarray of_type frames.old memory.old) memory.old
+        (after_instruction result frames.new memory.new) }
+{
+    newarray(of_type, frames, memory)?;
+    Ok(())
+}
+
+// `anewarray`, likewise.
+#[inline(always)]
+fn make_reference_array<S: WordStore>(
+    index: u16,
+    frames: &mut Frames,
+    memory: &mut Memory<S>,
+    linked: &Linked,
+) -> Result<(), StepExit>
+    requires up { memory.old.heap.down ≡ false }
+    ensures { Executes (anewarray index linked.now frames.old memory.old) memory.old
+        (after_instruction result frames.new memory.new) }
+{
+    anewarray(index, frames, memory, linked)?;
+    Ok(())
 }
 
 // Carries out an instruction at a place, after which the next one stands, if the code has it. What frames alone carry out does not come here.
@@ -120,13 +166,11 @@ fn execute<S: WordStore>(
         }
         Instr::Array(ArrayOp::NewArray(of_type)) => {
             in_package(frames)?;
-            newarray(*of_type, frames, memory)?;
-            Ok(())
+            make_array(*of_type, frames, memory)
         }
         Instr::Array(ArrayOp::ANewArray(index)) => {
             in_package(frames)?;
-            anewarray(*index, frames, memory, linked)?;
-            Ok(())
+            make_reference_array(*index, frames, memory, linked)
         }
         Instr::Array(ArrayOp::ArrayLength) => {
             in_package(frames)?;
@@ -134,8 +178,7 @@ fn execute<S: WordStore>(
         }
         Instr::Object(operation) => {
             in_package(frames)?;
-            object_instruction(*operation, place, frames, memory, linked)?;
-            Ok(())
+            make_or_test(*operation, place, frames, memory, linked)
         }
         Instr::Invoke(call) => invoke_instruction(*call, place, frames, memory, linked),
         _ => Err(StepExit::End(Outcome::Fault)),
@@ -184,7 +227,7 @@ fn throw_at<S: WordStore>(
     }
 }
 
-/// Does what is left of a step at a pause, and throws what it throws.
+/// Does what is left of a step at a pause, and throws what it throws. The end of a method throws nothing, so it takes no way out of line.
 #[tactic(auto, using(jc_memory::proofs::ProgramLemmas::in_two_calls, crate::proofs::StepEnds::ended_step))]
 #[inline(always)]
 pub(crate) fn finish<S: WordStore>(
@@ -197,6 +240,11 @@ pub(crate) fn finish<S: WordStore>(
     ensures { Executes (step_rest pause.now linked.now frames.old memory.old) memory.old
         (after_instruction result frames.new memory.new) }
 {
+    if let FramesExit::Needs(instr) = &pause.why {
+        if let Instr::Return(how) = instr {
+            return return_if_had(*how, frames, memory);
+        }
+    }
     match resume(&pause.why, pause.place, frames, memory, linked) {
         Ok(()) => Ok(()),
         Err(exit) => {

@@ -3,9 +3,10 @@ ghost use Rattle.std.specs.Prelude.{◌≡◌, ◌+◌, ◌≤◌, false, length
 ghost use Rattle.jc_heap.specs.Heap.{IsObject, facts};
 ghost use Rattle.jc_memory.specs.Cells.{bytes_at};
 ghost use Rattle.jc_memory.specs.Commands.{takes_extended_length};
-ghost use Rattle.jc_memory.specs.State.{BeginCommand, SendBytes, apply_effect};
+ghost use Rattle.jc_memory.specs.State.{BeginCommand, SendBytes, SetRegisters, apply_effect};
 
 use crate::memory::{MOST_COMMAND, MOST_SENT, Memory};
+use crate::registers::ApduPhase;
 use jc_transient::Ref;
 use jc_words::WordStore;
 
@@ -24,8 +25,7 @@ impl<S: WordStore> Memory<S> {
         requires { length bytes.now ≤ MOST_COMMAND }
         ensures { self.new ≡ apply_effect (BeginCommand bytes.now) self.old }
     {
-        self.command.clear();
-        self.command.append(bytes);
+        self.command.set(bytes);
         self.sent.clear();
     }
 
@@ -34,6 +34,16 @@ impl<S: WordStore> Memory<S> {
         ensures { result.now ≡ self.now.command }
     {
         self.command.as_slice()
+    }
+
+    /// Sets how far the APDU has come.
+    #[inline(always)]
+    pub fn set_phase(&mut self, phase: ApduPhase)
+        ensures { self.new ≡ apply_effect (SetRegisters (record self.old.registers {
+          apdu = record self.old.registers.apdu { phase = phase };
+        })) self.old }
+    {
+        self.registers.apdu.phase = phase;
     }
 
     /// Sends bytes, after those that were sent already.

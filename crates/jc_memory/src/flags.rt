@@ -4,7 +4,7 @@ ghost use Rattle.jc_transient.specs.State.{flag_of};
 ghost use Rattle.jc_memory.specs.State.{SetFlag, ClearTransient, SetRegisters, apply_effect};
 
 use crate::memory::Memory;
-use crate::registers::Registers;
+use crate::registers::{Owner, Registers};
 use jc_transient::{ClearEvent, Ref};
 use jc_words::WordStore;
 
@@ -43,5 +43,18 @@ impl<S: WordStore> Memory<S> {
         ensures { self.new ≡ apply_effect (SetRegisters registers) self.old }
     {
         self.registers = registers;
+    }
+
+    /// Sets for whom code runs, and for whom it ran before the last switch.
+    #[inline(always)]
+    pub fn set_owners(&mut self, active: Owner, previous: Owner)
+        ensures { self.new ≡ apply_effect (SetRegisters (record self.old.registers {
+          active = active;
+          previous = previous;
+        })) self.old }
+    {
+        let registers = &mut self.registers;
+        registers.active = active;
+        registers.previous = previous;
     }
 }

@@ -47,6 +47,19 @@ impl<const MOST: usize> Kept<MOST> {
         self.bytes.clear();
     }
 
+    /// These bytes are kept in place of the others.
+    pub fn set(&mut self, bytes: &[u8])
+        requires { length bytes.now ≤ MOST }
+        ensures { self.new ≡ bytes.now }
+    {
+        if self.bytes.len() == bytes.len() {
+            self.bytes.copy_from_slice(bytes);
+        } else {
+            self.clear();
+            self.append(bytes);
+        }
+    }
+
     /// Keeps bytes after those that are kept already.
     pub fn append(&mut self, bytes: &[u8])
         requires { length self.old + length bytes.now ≤ MOST }

@@ -3,17 +3,12 @@ ghost use Rattle.std.specs.Prelude.{◌≡◌};
 ghost use Rattle.jc_memory.specs.State.{SetRegisters, apply_effect};
 ghost use Rattle.jc_api_framework.specs.Apdu.{with_phase};
 
-use jc_memory::{ApduPhase, ApduState, Memory, Registers};
+use jc_memory::{ApduPhase, Memory};
 use jc_words::WordStore;
 
 /// The command has come so far.
 pub(crate) fn set_phase<S: WordStore>(memory: &mut Memory<S>, phase: ApduPhase)
     ensures { memory.new ≡ apply_effect (SetRegisters (with_phase memory.old phase)) memory.old }
 {
-    let registers = memory.registers();
-    let expected = registers.apdu.expected;
-    memory.set_registers(Registers {
-        apdu: ApduState { expected, phase },
-        ..registers
-    });
+    memory.set_phase(phase);
 }

@@ -16,14 +16,13 @@ pub(crate) fn decode_call<C>(opcode: u8, code: &[u8], at: usize) -> Option<(Inst
     ensures within { IfSome result (λ p. p.1 ≤ length code.now) }
     ensures listed { IfSome result (λ p. HasListedOperands p.0) }
 {
-    let (call, next) = match opcode {
-        0x8B => (InvokeOp::Virtual(u2_at(code, at)?), at + 2), // invokevirtual
-        0x8C => (InvokeOp::Special(u2_at(code, at)?), at + 2), // invokespecial
-        0x8D => (InvokeOp::Static(u2_at(code, at)?), at + 2), // invokestatic
-        0x8E => return decode_interface_call::<C>(code, at), // invokeinterface
-        _ => return decode_return::<C>(opcode, code, at),
-    };
-    Some((Instr::Invoke(call), next))
+    match opcode {
+        0x8B => Some((Instr::Invoke(InvokeOp::Virtual(u2_at(code, at)?)), at + 2)), // invokevirtual
+        0x8C => Some((Instr::Invoke(InvokeOp::Special(u2_at(code, at)?)), at + 2)), // invokespecial
+        0x8D => Some((Instr::Invoke(InvokeOp::Static(u2_at(code, at)?)), at + 2)), // invokestatic
+        0x8E => decode_interface_call::<C>(code, at), // invokeinterface
+        _ => decode_return::<C>(opcode, code, at),
+    }
 }
 
 #[inline(always)]

@@ -23,7 +23,7 @@ returns-in-Err-End g c =
     λ attack away. c.loop-rest.invariant.continues attack away (Completed (c.in-Some.rest + c.args.later, c.in-Err-End.outcome) c.finish.new.memory)
     (run_ended attack (c.loop-rest.left + c.args.later) (c.in-Some.rest + c.args.later) c.in-Some.pause c.args.lent.now c.args.linked.now
     c.loop-rest.frames c.run_in_frames.new.frames c.loop-rest.memory c.finish.new.memory
-    (c.in-Some.ensures.same attack c.args.later c.args.lent.now c.args.linked.now c.loop-rest.memory
+    (c.in-Some.ensures.same attack c.args.later c.args.lent.now
     (away_fewer attack c.args.budget c.loop-rest.left c.args.later c.loop-rest.invariant.few away)
     (c.loop-rest.invariant.own
     ∙ ap (code_of c.args.lent.now c.args.linked.now) c.loop-rest.invariant.here)) c.in-Err-End.outcome e)
@@ -34,7 +34,7 @@ returns-in-Err-Throw g c =
     λ attack away. c.loop-rest.invariant.continues attack away (Completed (c.in-Some.rest + c.args.later, Fault) c.finish.new.memory)
     (run_thrown attack (c.loop-rest.left + c.args.later) (c.in-Some.rest + c.args.later) c.in-Some.pause c.args.lent.now c.args.linked.now
     c.loop-rest.frames c.run_in_frames.new.frames c.loop-rest.memory c.finish.new.memory
-    (c.in-Some.ensures.same attack c.args.later c.args.lent.now c.args.linked.now c.loop-rest.memory
+    (c.in-Some.ensures.same attack c.args.later c.args.lent.now
     (away_fewer attack c.args.budget c.loop-rest.left c.args.later c.loop-rest.invariant.few away)
     (c.loop-rest.invariant.own
     ∙ ap (code_of c.args.lent.now c.args.linked.now) c.loop-rest.invariant.here)) _ _ e)
@@ -45,7 +45,7 @@ returns-in-Err-Down g c =
     λ attack away. c.loop-rest.invariant.continues attack away (Torn c.finish.new.memory)
     (run_cut attack (c.loop-rest.left + c.args.later) (c.in-Some.rest + c.args.later) c.in-Some.pause c.args.lent.now c.args.linked.now
     c.loop-rest.frames c.run_in_frames.new.frames c.loop-rest.memory c.finish.new.memory
-    (c.in-Some.ensures.same attack c.args.later c.args.lent.now c.args.linked.now c.loop-rest.memory
+    (c.in-Some.ensures.same attack c.args.later c.args.lent.now
     (away_fewer attack c.args.budget c.loop-rest.left c.args.later c.loop-rest.invariant.few away)
     (c.loop-rest.invariant.own
     ∙ ap (code_of c.args.lent.now c.args.linked.now) c.loop-rest.invariant.here)) e)
@@ -55,7 +55,7 @@ loop-rest-preserved-then-origin-number g c = record {
   continues = λ attack away after rest. c.loop-rest.invariant.continues attack away after
       (run_more attack (c.loop-rest.left + c.args.later) (c.in-Some.rest + c.args.later) c.in-Some.pause c.args.lent.now c.args.linked.now
       c.loop-rest.frames c.run_in_frames.new.frames c.loop-rest.memory c.finish.new.memory
-      (c.in-Some.ensures.same attack c.args.later c.args.lent.now c.args.linked.now c.loop-rest.memory
+      (c.in-Some.ensures.same attack c.args.later c.args.lent.now
       (away_fewer attack c.args.budget c.loop-rest.left c.args.later c.loop-rest.invariant.few away)
       (c.loop-rest.invariant.own
       ∙ ap (code_of c.args.lent.now c.args.linked.now) c.loop-rest.invariant.here)) c.finish.new.frames after c.in-Ok.ensures rest);
@@ -72,7 +72,7 @@ loop-rest-preserved g c = record {
   continues = λ attack away after rest. c.loop-rest.invariant.continues attack away after
       (run_more attack (c.loop-rest.left + c.args.later) (c.in-Some.rest + c.args.later) c.in-Some.pause c.args.lent.now c.args.linked.now
       c.loop-rest.frames c.run_in_frames.new.frames c.loop-rest.memory c.finish.new.memory
-      (c.in-Some.ensures.same attack c.args.later c.args.lent.now c.args.linked.now c.loop-rest.memory
+      (c.in-Some.ensures.same attack c.args.later c.args.lent.now
       (away_fewer attack c.args.budget c.loop-rest.left c.args.later c.loop-rest.invariant.few away)
       (c.loop-rest.invariant.own
       ∙ ap (code_of c.args.lent.now c.args.linked.now) c.loop-rest.invariant.here)) c.finish.new.frames after c.in-Ok.ensures rest);

@@ -1,0 +1,327 @@
+//! Reads that are carried out at once, since no rule refuses them and nothing is thrown: of fields of own persistent objects, and of elements of
+//! own arrays and of the runtime environment's.
+ghost use Rattle.std.specs.Prelude.{◌≡◌, ◌<◌, false, true, Some, IfSome};
+ghost use Rattle.jc_heap.specs.Heap.{IsObject, facts};
+ghost use Rattle.jc_memory.specs.Cells.{IsHeaderOf};
+ghost use Rattle.jc_memory.specs.State.{MemoryState};
+ghost use Rattle.jc_linker.specs.Values.{Packages};
+ghost use Rattle.jc_firewall.specs.declared.access.Access.TheVariants.{ArrayElement};
+ghost use Rattle.jc_firewall.specs.declared.decide.Decision.TheVariants.{Allow};
+ghost use Rattle.jc_world.specs.Contexts.{firewall_decision};
+ghost use Rattle.jc_world.specs.Objects.{is_instance, object_at};
+ghost use Rattle.jc_world.specs.Values.{value_at};
+ghost use Rattle.jc_instructions.specs.Fields.{field_cell, getfield, getfield_this};
+ghost use Rattle.jc_instructions.specs.ArrayAccess.{array_load};
+ghost use Rattle.jc_instructions.specs.AtOnce.{IsDoneAtOnce, IsReadOfField, IsReadOfElement};
+ghost use Rattle.std.specs.Prelude.{Ok};
+
+use crate::array_elements::{has_elements, with_index};
+use crate::field_names::{FieldOfClass, field_named};
+use crate::known_values::known_value;
+use jc_frames::instr::ValueType;
+use jc_frames::{Cell, Frames};
+use jc_heap::Facts;
+use jc_linker::linked::Linked;
+use jc_memory::Memory;
+use jc_transient::{ClearEvent, Ref};
+use jc_words::WordStore;
+use jc_world::contexts::is_own;
+use jc_world::objects::is_instance;
+
+// A reference names an object. Its header is read after this, so that what is not asked of it is not decoded.
+#[inline(always)]
+#[tactic(auto, unfolding(jc_world::specs::Objects::object_at))]
+fn names_object<S: WordStore>(reference: Ref, memory: &Memory<S>) -> bool
+    requires up { memory.now.heap.down ≡ false }
+    ensures { result ≡ true → IsObject memory.now.heap.now reference
+        × (object_at memory.now reference ≡ Ok (facts memory.now.heap.now reference)) }
+{
+    !reference.is_null() && memory.header(reference).is_some()
+}
+
+// The value of a field in the object that a reference names, as it comes on the stack, where the object is persistent, of the very class of the
+// field, and belongs to the owner for whom code runs.
+#[inline(always)]
+#[tactic(auto, unfolding(crate::specs::Fields::field_cell), using(jc_world::proofs::Below::below_same))]
+fn own_field_value<S: WordStore>(
+    of_type: ValueType,
+    field: FieldOfClass,
+    reference: Ref,
+    memory: &Memory<S>,
+) -> Option<Cell>
+    requires up { memory.now.heap.down ≡ false }
+    ensures cell { IfSome result (λ value. (p : Packages)
+        → field_cell field p memory.now reference ≡ Ok field.cell) }
+    ensures value { IfSome result (λ value. value
+        ≡ value_at of_type memory.now reference field.cell) }
+{
+    if !names_object(reference, memory) {
+        return None;
+    }
+    let facts = memory.facts(reference);
+    if facts.event.is_some() || !is_instance(facts.kind) || facts.class() != field.class {
+        return None;
+    }
+    if field.cell >= u32::from(facts.length) || !is_own(facts, memory) {
+        return None;
+    }
+    let index = field.cell as u16;
+    Some(known_value(of_type, facts, memory, reference, index))
+}
+
+// The same of the field that an entry of the pool of the package that runs names.
+#[inline(always)]
+#[tactic(auto, unfolding(crate::specs::Fields::field_read))]
+fn named_field_value<S: WordStore>(
+    of_type: ValueType,
+    index: u16,
+    reference: Ref,
+    frames: &Frames,
+    memory: &Memory<S>,
+    linked: &Linked,
+) -> Option<Cell>
+    requires up { memory.now.heap.down ≡ false }
+    ensures { IfSome result (IsReadOfField of_type index reference
+        frames.now.current.origin.package_number linked.now memory.now) }
+{
+    let field = field_named(of_type, linked, frames.origin().package_number, index)?;
+    own_field_value(of_type, field, reference, memory)
+}
+
+// Carries out `getfield` of a field of this type, if its object is such a one; says whether it did.
+#[inline(always)]
+#[tactic(auto, unfolding(crate::specs::Fields::getfield), using(crate::proofs::TopCells::reference_on_top, crate::proofs::TopCells::one_cell))]
+fn getfield_of<S: WordStore>(
+    of_type: ValueType,
+    index: u16,
+    frames: &mut Frames,
+    memory: &Memory<S>,
+    linked: &Linked,
+) -> bool
+    requires up { memory.now.heap.down ≡ false }
+    ensures { IsDoneAtOnce result (getfield of_type index linked.now frames.old memory.now)
+        frames.old frames.new }
+{
+    let Some(top) = frames.peek(0) else {
+        return false;
+    };
+    let Cell::Reference(reference) = top else {
+        return false;
+    };
+    let Some(value) = named_field_value(of_type, index, reference, frames, memory, linked) else {
+        return false;
+    };
+    let _ = frames.room(); // so that the proof knows how high the stack may be
+    frames.discard(1);
+    frames.push(value);
+    true
+}
+
+/// Carries out `getfield` of a field of this type, if the object is persistent, of the very class of the field, and belongs to the owner for whom code
+/// runs; says whether it did. Each type is an arm of its own, so that it is asked once.
+#[inline(always)]
+pub fn getfield_at_once<S: WordStore>(
+    of_type: ValueType,
+    index: u16,
+    frames: &mut Frames,
+    memory: &Memory<S>,
+    linked: &Linked,
+) -> bool
+    requires up { memory.now.heap.down ≡ false }
+    ensures { IsDoneAtOnce result (getfield of_type index linked.now frames.old memory.now)
+        frames.old frames.new }
+{
+    match of_type {
+        ValueType::Reference => getfield_of(ValueType::Reference, index, frames, memory, linked),
+        ValueType::Byte => getfield_of(ValueType::Byte, index, frames, memory, linked),
+        ValueType::Short => getfield_of(ValueType::Short, index, frames, memory, linked),
+    }
+}
+
+// Carries out `getfield_this` of a field of this type, if its object is such a one; says whether it did.
+#[inline(always)]
+#[tactic(auto, unfolding(crate::specs::Fields::getfield_this))]
+fn getfield_this_of<S: WordStore>(
+    of_type: ValueType,
+    index: u16,
+    frames: &mut Frames,
+    memory: &Memory<S>,
+    linked: &Linked,
+) -> bool
+    requires up { memory.now.heap.down ≡ false }
+    ensures { IsDoneAtOnce result (getfield_this of_type index linked.now frames.old memory.now)
+        frames.old frames.new }
+{
+    if !frames.has_room() {
+        return false;
+    }
+    let Some(this) = frames.local(0) else {
+        return false;
+    };
+    let Cell::Reference(reference) = this else {
+        return false;
+    };
+    let Some(value) = named_field_value(of_type, index, reference, frames, memory, linked) else {
+        return false;
+    };
+    frames.push(value);
+    true
+}
+
+/// The same of `getfield_this`.
+#[inline(always)]
+pub fn getfield_this_at_once<S: WordStore>(
+    of_type: ValueType,
+    index: u16,
+    frames: &mut Frames,
+    memory: &Memory<S>,
+    linked: &Linked,
+) -> bool
+    requires up { memory.now.heap.down ≡ false }
+    ensures { IsDoneAtOnce result (getfield_this of_type index linked.now frames.old memory.now)
+        frames.old frames.new }
+{
+    match of_type {
+        ValueType::Reference => {
+            getfield_this_of(ValueType::Reference, index, frames, memory, linked)
+        }
+        ValueType::Byte => getfield_this_of(ValueType::Byte, index, frames, memory, linked),
+        ValueType::Short => getfield_this_of(ValueType::Short, index, frames, memory, linked),
+    }
+}
+
+// An array with this header is one of the runtime environment's that no deselection clears: all reach its elements.
+#[inline(always)]
+#[tactic(auto, using(jc_world::proofs::Free::global_free), unfolding(jc_world::specs::Contexts::situation_of, jc_world::specs::Contexts::subject_of))]
+const fn is_global(facts: Facts) -> bool
+    ensures { (p : Packages) (m : MemoryState) → result ≡ true → is_instance facts.kind ≡ false
+        → firewall_decision ArrayElement p m facts ≡ Allow }
+{
+    let is_cleared = match facts.event {
+        Some(ClearEvent::Deselect) => true,
+        _ => false,
+    };
+    facts.owner().0 == 0 && !is_cleared
+}
+
+// The element with an index of an array with this header, as it comes on the stack, where the array is persistent and belongs to the owner for whom
+// code runs.
+#[inline(always)]
+#[tactic(auto, unfolding(crate::specs::ArrayAccess::element_read, crate::specs::ArrayElements::element_at, crate::specs::ArrayElements::array_at))]
+fn persistent_element<S: WordStore>(
+    of_type: ValueType,
+    header: Facts,
+    reference: Ref,
+    index: i16,
+    memory: &Memory<S>,
+) -> Option<Cell>
+    requires up { memory.now.heap.down ≡ false }
+    requires there { IsObject memory.now.heap.now reference }
+    requires header { IsHeaderOf memory.now reference header }
+    requires known { object_at memory.now reference ≡ Ok header }
+    ensures { IfSome result (λ value. (p : Packages)
+        → IsReadOfElement of_type reference index p memory.now value) }
+{
+    if header.event.is_some() || !has_elements(of_type, header.kind) || !is_own(header, memory) {
+        return None;
+    }
+    let element = with_index(header, index).ok()?;
+    Some(known_value(of_type, header, memory, reference, element.index))
+}
+
+// The same of a transient array of numbers, which belongs to that owner or to the runtime environment.
+#[inline(always)]
+#[tactic(auto, unfolding(crate::specs::ArrayAccess::element_read, crate::specs::ArrayElements::element_at, crate::specs::ArrayElements::array_at))]
+fn transient_element<S: WordStore>(
+    of_type: ValueType,
+    header: Facts,
+    reference: Ref,
+    index: i16,
+    memory: &Memory<S>,
+) -> Option<Cell>
+    requires up { memory.now.heap.down ≡ false }
+    requires there { IsObject memory.now.heap.now reference }
+    requires header { IsHeaderOf memory.now reference header }
+    requires known { object_at memory.now reference ≡ Ok header }
+    ensures { IfSome result (λ value. (p : Packages)
+        → IsReadOfElement of_type reference index p memory.now value) }
+{
+    if of_type == ValueType::Reference || !has_elements(of_type, header.kind) {
+        return None;
+    }
+    if !is_own(header, memory) && !is_global(header) {
+        return None;
+    }
+    let element = with_index(header, index).ok()?;
+    Some(known_value(of_type, header, memory, reference, element.index))
+}
+
+// The element with an index of the array that a reference names, where the array is one of these.
+#[inline(always)]
+fn known_element<S: WordStore>(
+    of_type: ValueType,
+    reference: Ref,
+    index: i16,
+    memory: &Memory<S>,
+) -> Option<Cell>
+    requires up { memory.now.heap.down ≡ false }
+    ensures { IfSome result (λ value. (p : Packages)
+        → IsReadOfElement of_type reference index p memory.now value) }
+{
+    if !names_object(reference, memory) {
+        return None;
+    }
+    let header = memory.facts(reference);
+    match header.event {
+        None => persistent_element(of_type, header, reference, index, memory),
+        Some(_) => transient_element(of_type, header, reference, index, memory),
+    }
+}
+
+// Carries out an instruction that reads an element of this type, if the array is one of these; says whether it did.
+#[inline(always)]
+#[tactic(auto, unfolding(crate::specs::ArrayAccess::array_load), using(crate::proofs::TopCells::short_on_top, crate::proofs::TopCells::reference_below, crate::proofs::TopCells::two_cells))]
+fn array_load_of<S: WordStore>(of_type: ValueType, frames: &mut Frames, memory: &Memory<S>) -> bool
+    requires up { memory.now.heap.down ≡ false }
+    ensures { (p : Packages) → IsDoneAtOnce result (array_load of_type p frames.old memory.now)
+        frames.old frames.new }
+{
+    let Some(top) = frames.peek(0) else {
+        return false;
+    };
+    let Cell::Short(index) = top else {
+        return false;
+    };
+    let Some(below) = frames.peek(1) else {
+        return false;
+    };
+    let Cell::Reference(reference) = below else {
+        return false;
+    };
+    let Some(value) = known_element(of_type, reference, index, memory) else {
+        return false;
+    };
+    let _ = frames.room(); // so that the proof knows how high the stack may be
+    frames.discard(2);
+    frames.push(value);
+    true
+}
+
+/// Carries out `aaload`, `baload` or `saload`, if the array belongs to the owner for whom code runs, or is a transient one of the runtime environment, and
+/// has such an element; says whether it did. Each type of elements is an arm of its own, so that it is asked once.
+#[inline(always)]
+pub fn array_load_at_once<S: WordStore>(
+    of_type: ValueType,
+    frames: &mut Frames,
+    memory: &Memory<S>,
+) -> bool
+    requires up { memory.now.heap.down ≡ false }
+    ensures { (p : Packages) → IsDoneAtOnce result (array_load of_type p frames.old memory.now)
+        frames.old frames.new }
+{
+    match of_type {
+        ValueType::Reference => array_load_of(ValueType::Reference, frames, memory),
+        ValueType::Byte => array_load_of(ValueType::Byte, frames, memory),
+        ValueType::Short => array_load_of(ValueType::Short, frames, memory),
+    }
+}
