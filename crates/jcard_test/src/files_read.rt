@@ -10,26 +10,32 @@ use crate::sources::Source;
 use jcard_files::disk::Disk;
 use jcard_files::fault::Fault;
 
-/// Files of rows, and each file that was read for them.
+/// The files of rows with these names, and each file that was read for them.
 #[derive(Drop)]
-pub(crate) struct FilesRead<'n> {
+pub(crate) struct FilesRead<'a, 'n> {
+    pub(crate) names: &'a [&'n str],
     pub(crate) files: Vec<NamedFile<'n>>,
     pub(crate) sources: Vec<Source>,
 }
 
 /// The files with these names, with what they include and the platform tables that they name.
-pub(crate) fn files_read<'n, D: Disk>(
+pub(crate) fn files_read<'a, 'n, D: Disk>(
     disk: &mut D,
-    names: &[&'n str],
-) -> Result<FilesRead<'n>, Fault<'n>>
+    names: &'a [&'n str],
+) -> Result<FilesRead<'a, 'n>, Fault<'n>>
     ensures { (deeds : List FileDeed) × D.does disk.old deeds disk.new × All IsReading deeds
-        × MatchResult result (λ read. AreFilesRead (names_of names.now) read.files.items deeds
+        × MatchResult result (λ read. (read.names.now ≡ names.now)
+        × AreFilesRead (names_of names.now) read.files.items deeds
         × (paths_of read.sources.items ≡ paths_read deeds))
         (λ fault. IsOneUnread (names_of names.now) fault deeds) }
 {
     let mut sources = Vec::new(disk.alloc());
     let files = named_files(disk, names, &mut sources)?;
-    Ok(FilesRead { files, sources })
+    Ok(FilesRead {
+        names,
+        files,
+        sources,
+    })
 }
 
 // The files with these names.

@@ -59,7 +59,7 @@ fn test_by<'n, D: Disk, W: TextOut, T: Timer + Remarks>(
         (IsTestBy plan.now (names_of names.now) asked.entry) }
 {
     match files_read(disk, names) {
-        Ok(read) => test_read(disk, names, &read, plan, asked, out, timer),
+        Ok(read) => test_read(disk, &read, plan, asked, out, timer),
         Err(fault) => Err(fault),
     }
 }
@@ -67,18 +67,17 @@ fn test_by<'n, D: Disk, W: TextOut, T: Timer + Remarks>(
 // Does so with files that were read: the report for build servers replaces none of them.
 fn test_read<'n, D: Disk, W: TextOut, T: Timer + Remarks>(
     disk: &mut D,
-    names: &[&'n str],
-    read: &FilesRead<'n>,
+    read: &FilesRead<'_, 'n>,
     plan: &Plan,
     asked: Asked<'n>,
     out: &mut W,
     timer: &mut T,
 ) -> Result<(), Fault<'n>>
     ensures { Does D.does W.contents W.failures disk.old disk.new out.old out.new result
-        (IsTestOfRead plan.now (names_of names.now) read.now.files.items
+        (IsTestOfRead plan.now (names_of read.now.names.now) read.now.files.items
         (paths_of read.now.sources.items) asked.entry) }
 {
-    let Ok(operands) = spared(disk.alloc(), names, asked.table, &read.sources) else {
+    let Ok(operands) = spared(disk.alloc(), read.names, asked.table, &read.sources) else {
         return Err(Fault::NoMemory);
     };
     let junit = JunitFile {

@@ -1,4 +1,4 @@
-use Rattle.std.proofs.Common.{List, ◌++◌, ◌∙◌, ap}
+use Rattle.std.proofs.Common.{List, ◌++◌, ◌∙◌, ap, refl}
 use Rattle.std.proofs.lemmas.Result.{err_from_is_err_and}
 use Rattle.jcard_test.specs.Sources.{paths_of, paths_read}
 use Rattle.jcard_test.specs.declared.sources.Source.{Source}
@@ -10,7 +10,7 @@ returns g c =
       read.0,
       read.1,
       read.2.0,
-      (read.3, read.2.1 ∙ ap (λ (ss : List Source). paths_of ss ++ paths_read read.0) c.new-sources.ensures.items),
+      (refl, read.3, read.2.1 ∙ ap (λ (ss : List Source). paths_of ss ++ paths_read read.0) c.new-sources.ensures.items),
     )
 
 pub returns-in_err-files : goal.returns-in_err-files

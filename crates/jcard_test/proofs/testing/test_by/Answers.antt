@@ -2,7 +2,7 @@ use Rattle.std.proofs.Common.{[], ◌++◌, refl, sym, subst, inl, inr, append-n
 use Rattle.jcard_texts.proofs.Known.{appends_same}
 use Rattle.jcard_test.specs.Tests.{IsTestOfRead}
 use Rattle.jcard_test.proofs.RowTests.{any_unwritten}
-use Rattle.jcard_test.specs.Sources.{names_of}
+use Rattle.jcard_test.specs.Sources.{names_of, paths_of}
 use Rattle.jcard_files.proofs.Effects.{unfailed}
 use Rattle.jcard_test.proofs.testing.test_by.Goals as goal
 
@@ -11,12 +11,14 @@ returns-in-Ok g c =
     let read = c.in-Ok.ensures in
     let done = c.test_read.ensures.0 in
     let files = c.in-Ok.read.files.items in
-    let tested = subst (λ ps. IsTestOfRead c.args.plan.now (names_of c.args.names.now) files ps c.args.asked c.test_read.result done.0 done.1) read.3.1 done.3 in (
+    let sources = paths_of c.in-Ok.read.sources.items in
+    let named = subst (λ ns. IsTestOfRead c.args.plan.now (names_of ns) files sources c.args.asked c.test_read.result done.0 done.1) read.3.0 done.3 in
+    let tested = subst (λ ps. IsTestOfRead c.args.plan.now (names_of c.args.names.now) files ps c.args.asked c.test_read.result done.0 done.1) read.3.2 named in (
       (
         done.0,
         read.0 ++ done.1,
         done.2,
-        (read.0, done.1, refl, read.2, inr (files, read.3.0, tested)),
+        (read.0, done.1, refl, read.2, inr (files, read.3.1, tested)),
         g.met.D.Disk.then _ _ _ read.0 done.1 read.1 done.4,
       ),
       c.test_read.ensures.1,

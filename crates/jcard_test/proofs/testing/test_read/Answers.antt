@@ -15,7 +15,7 @@ returns g c =
     let a = c.args.asked in
     let operands = c.in-Ok.operands.items in
     let ended = c.test_beside.result in
-    let spared = subst (λ ss. AreSpared (names_of c.args.names.now) (table_asked a) (paths_of ss) operands) c.deref.ensures.value c.in-Ok.ensures in
+    let spared = subst (λ ss. AreSpared (names_of c.args.read.now.names.now) (table_asked a) (paths_of ss) operands) c.deref.ensures.value c.in-Ok.ensures in
     let by_files = subst (λ files. IsTestBeside p files c.deref-2.result.now (name_of a.junit) ended done.0 done.1) c.deref-3.ensures.value done.3 in
     let tested = subst (λ os. IsTestBeside p c.args.read.now.files.items os (name_of a.junit) ended done.0 done.1) c.deref-2.ensures.value by_files in
     ((done.0, done.1, done.2, inr (operands, spared, tested), done.4), c.test_beside.ensures.1)
