@@ -8,7 +8,7 @@ use Rattle.jcard_test.specs.Cards.{AddsRow, AreCards, IsNewCard, IsRowOfLine, Is
 use Rattle.jcard_test.specs.declared.card_rows.CardRows.{CardRows}
 use Rattle.jcard_test.specs.declared.numbered_line.Numbered.{Numbered}
 use Rattle.jcard_test.specs.declared.row.Row.{Row}
-use Rattle.jcard_test.proofs.Items.{drop_at}
+use Rattle.jcard_texts.proofs.Items.{drop_at}
 
 -- a line says nothing of a sweep
 pub no_sweep : (command : List ℕ) → (command ≡ codes "tear all-or-nothing" → ⊥) → ((rest : List ℕ) → command ≡ codes "attack none-accepted" ++ rest → ⊥)

@@ -5,7 +5,7 @@ use Rattle.std.proofs.lemmas.List.{length-take-le, take-append-drop, take_all, t
 use Rattle.jcard_test.specs.Answers.{FitsUnspaced}
 use Rattle.jcard_test.specs.Comparison.{AreAnswered, IsAnswered, IsFirstUnlike, IsLine, IsUnlike}
 use Rattle.jcard_test.specs.declared.row.Row.{Row}
-use Rattle.jcard_test.proofs.Items.{drop_at}
+use Rattle.jcard_texts.proofs.Items.{drop_at}
 
 -- no row is answered by nothing
 pub answered_none : (text : List ℕ) → AreAnswered [] text text

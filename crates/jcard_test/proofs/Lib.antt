@@ -1,7 +1,6 @@
 pub mod CardSteps
 pub mod Comparisons
 pub mod AnswerFit
-pub mod Items
 pub mod NamedTables
 pub mod Numbering
 pub mod Paths

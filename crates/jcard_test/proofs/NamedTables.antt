@@ -9,7 +9,7 @@ use Rattle.jcard_test.specs.NamedTable.{IsUnnamed, Names, NamesNone, SaysNothing
 use Rattle.jcard_test.specs.declared.line.Line.{Line}
 use Rattle.jcard_test.specs.declared.line.Line.TheVariants.{Nothing}
 use Rattle.jcard_test.specs.declared.numbered_line.Numbered.{Numbered}
-use Rattle.jcard_test.proofs.Items.{drop_at}
+use Rattle.jcard_texts.proofs.Items.{drop_at}
 
 pub none_yet : (lines : List Numbered) → All SaysNothing (take 0 lines)
 none_yet lines = λ k d h. absurd (omega arith)

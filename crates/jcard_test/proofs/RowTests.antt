@@ -7,7 +7,7 @@ use Rattle.std.proofs.lemmas.List.{drop_all, get_or_default, length-map, length-
 use Rattle.std.proofs.lemmas.Grind.{flat_map-append}
 use Rattle.std.proofs.lemmas.List.Elements.{All-append}
 use Rattle.std.proofs.lemmas.Bool.{cases_lt}
-use Rattle.jcard_test.proofs.Items.{drop_at}
+use Rattle.jcard_texts.proofs.Items.{drop_at}
 use Rattle.std.specs.String.{string_bytes}
 use Rattle.jcard_test.specs.Lines.{Says}
 use Rattle.jcard_test.specs.TextLines.{IsLineOf, IsUnrolled}

@@ -1,8 +1,8 @@
 -- The report over files of rows that build servers read.
 use Rattle.std.specs.Prelude.{ℕ, ◌==◌, ◌+◌, Bool, false, nat_lt, List, [], ◌∷◌, ◌++◌, codes, decimal, length, min, slice_index, if◌then◌else◌}
 use Rattle.std.specs.String.{string_bytes}
-use Rattle.jcard_test.specs.Escapes.{escaped}
-use Rattle.jcard_test.specs.Seconds.{seconds_text}
+use Rattle.jcard_texts.specs.Escapes.{escaped}
+use Rattle.jcard_texts.specs.Seconds.{seconds_text}
 use Rattle.jcard_test.specs.declared.card_rows.CardRows.{CardRows}
 use Rattle.jcard_test.specs.declared.outcome.Failure.{Failure}
 use Rattle.jcard_test.specs.declared.outcome.Outcome.{Outcome}

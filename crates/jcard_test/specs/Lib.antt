@@ -1,7 +1,6 @@
 pub mod Answers
 pub mod Cards
 pub mod Comparison
-pub mod Escapes
 pub mod Junit
 pub mod JunitFile
 pub mod Lines
@@ -10,7 +9,6 @@ pub mod Outcome
 pub mod Planning
 pub mod Report
 pub mod Row
-pub mod Seconds
 pub mod Sources
 pub mod RowSweep
 pub mod Tests

@@ -2,12 +2,12 @@
 ghost use Rattle.std.specs.Prelude.{◌≡◌, ◌++◌, IfOk, OnOk};
 ghost use Rattle.jcard_test.specs.Junit.{cards_cases, case_text, cases_text, failed_in, failure_text, head_text, is_behind, junit_text, name_text, no_row_text, row_case, row_text, rows_cases, suite_text, suites_text, test_count, time_at, told_text, verdict_text};
 
-use crate::escapes::push_escaped;
 use crate::outcome::{Failure, Outcome, Tested};
 use crate::report::is_failed;
 use crate::row::Row;
-use crate::seconds::push_seconds;
 use jcard_outcomes::rows::push_number;
+use jcard_texts::escapes::push_escaped;
+use jcard_texts::seconds::push_seconds;
 use std::alloc::{AllocError, Global};
 
 /// The XML text that says what came of files: a test suite for each, with a test case for each of its rows and the time that it took. The

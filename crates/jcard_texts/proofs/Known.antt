@@ -1,5 +1,5 @@
 -- Bytes that are known, over several calls.
-use Rattle.std.proofs.Common.{◌≡◌, ℕ, ◌+◌, ◌-◌, ◌≤◌, List, [], ◌++◌, length, take, drop, refl, sym, ◌∙◌, ap, arith, Option, Some, None, Result, Ok, Err}
+use Rattle.std.proofs.Common.{◌≡◌, ℕ, ◌+◌, ◌≤◌, List, [], ◌++◌, length, take, drop, refl, sym, ◌∙◌, ap, arith, Option, Some, None, Result, Ok, Err}
 use Rattle.std.proofs.Common.{append_assoc, append-nil, length-append, take-add}
 use Rattle.std.specs.Prelude.{MatchResult}
 use Rattle.std.specs.Io.KnownBytes.{Keeps, Appends, Consumes}
@@ -40,10 +40,6 @@ pub consumes_same : (a : Option (List ℕ)) → Consumes a a []
 consumes_same a = keeps_consumes_none a a (keeps_same a)
 
 -- ---- a text in pieces
-
--- the rest of a slice
-pub whole_rest : (n : ℕ) (xs : List ℕ) → take (length xs - n) (drop n xs) ≡ drop n xs
-whole_rest n xs = grind (arith, common_steps)
 
 -- what was written so far, and one more piece
 pub one_piece : (a b : ℕ) (xs : List ℕ) (old now next : Option (List ℕ)) → Appends old now (take a xs) → Appends now next (take b (drop a xs))

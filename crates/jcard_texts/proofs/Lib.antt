@@ -1,1 +1,3 @@
+pub mod Items
 pub mod Known
+pub mod QuotedTexts

@@ -1,4 +1,4 @@
-use Rattle.jcard_test.proofs.Items.{grown}
+use Rattle.jcard_texts.proofs.Items.{grown}
 use Rattle.jcard_test.proofs.junit.push_head.Goals as goal
 
 pub returns : goal.returns

@@ -1,4 +1,4 @@
-use Rattle.jcard_test.proofs.Items.{appended, grown}
+use Rattle.jcard_texts.proofs.Items.{appended, grown}
 use Rattle.jcard_test.proofs.junit.push_row_case.Goals as goal
 
 pub returns : goal.returns

@@ -1,5 +1,5 @@
 use Rattle.jcard_test.specs.Junit.{suite_text, suites_text}
-use Rattle.jcard_test.proofs.Items.{text_grows, text_whole}
+use Rattle.jcard_texts.proofs.Items.{text_grows, text_whole}
 use Rattle.jcard_test.proofs.Reports.{suites_more, suites_none}
 use Rattle.jcard_test.proofs.junit.push_suites.Goals as goal
 

@@ -1,7 +1,7 @@
 use Rattle.std.proofs.Common.{◌+◌, refl, subst}
 use Rattle.std.specs.String.{string_bytes}
 use Rattle.jcard_test.specs.Lines.{Says}
-use Rattle.jcard_test.proofs.Items.{slice_rest}
+use Rattle.jcard_texts.proofs.Items.{slice_rest}
 use Rattle.jcard_test.proofs.NamedTables.{named_here, none_yet, nothing_more, unnamed_all, unnamed_here}
 use Rattle.jcard_test.proofs.named_table.named_table.Goals as goal
 

@@ -1,6 +1,6 @@
 use Rattle.std.proofs.Common.{codes}
 use Rattle.jcard_test.specs.Report.{rows_text}
-use Rattle.jcard_test.proofs.Items.{appended}
+use Rattle.jcard_texts.proofs.Items.{appended}
 use Rattle.jcard_test.proofs.report.push_held.Goals as goal
 
 pub returns : goal.returns

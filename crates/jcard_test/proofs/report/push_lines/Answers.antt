@@ -1,5 +1,5 @@
 use Rattle.jcard_test.specs.Report.{lines_text, tested_text}
-use Rattle.jcard_test.proofs.Items.{text_grows, text_whole}
+use Rattle.jcard_texts.proofs.Items.{text_grows, text_whole}
 use Rattle.jcard_test.proofs.Reports.{lines_more, lines_none}
 use Rattle.jcard_test.proofs.report.push_lines.Goals as goal
 

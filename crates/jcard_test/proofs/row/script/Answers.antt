@@ -1,5 +1,5 @@
 use Rattle.jcard_test.specs.Row.{line_text, script_text}
-use Rattle.jcard_test.proofs.Items.{text_grows, text_whole}
+use Rattle.jcard_texts.proofs.Items.{text_grows, text_whole}
 use Rattle.jcard_test.proofs.Reports.{script_more, script_none}
 use Rattle.jcard_test.proofs.row.script.Goals as goal
 

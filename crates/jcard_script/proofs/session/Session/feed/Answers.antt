@@ -3,7 +3,8 @@ use Rattle.jcard_script.specs.Script.{ended_lines, AreCarriedOut}
 use Rattle.jcard_script.specs.HeldCard.{state_of_held}
 use Rattle.jcard_script.specs.Session.{StandsAt, IsKeptOf, unfinished_line}
 use Rattle.std.proofs.lemmas.Result.{err_from_is_err_and}
-use Rattle.jcard_texts.proofs.Known.{appends_same, appends_then_appends, whole_rest}
+use Rattle.jcard_texts.proofs.Items.{slice_rest}
+use Rattle.jcard_texts.proofs.Known.{appends_same, appends_then_appends}
 use Rattle.jcard_script.proofs.Parts.{unbroken_before, unbroken_whole, more_unbroken}
 use Rattle.jcard_script.proofs.ScriptEnds.{fault_inside, piece_whole}
 use Rattle.jcard_script.proofs.session.Session.feed.Goals as goal
@@ -63,7 +64,7 @@ loop-end-preserved g c =
     let rest = c.loop-end.rest.now in
     let at = c.in-Some.end in
     let inv = c.loop-end.invariant.goes in
-    let left = whole_rest (at + 1) rest in
+    let left = slice_rest rest (at + 1) in
     let split = piece_whole [] inv.0 rest c.args.piece.now at inv.1 c.in-Some.ensures.0.high c.in-Some.ensures.1 in
     record {
       number = omega (arith, c.loop-end.invariant.number, c.in_ok-end_line.ensures.number, c.in-Some.ensures.0.high, ap length left, length-drop (at + 1) rest);

@@ -1,6 +1,6 @@
 use Rattle.std.proofs.Common.{◌∙◌, ◌++◌, ap, sym}
-use Rattle.jcard_test.proofs.Reports.{escaped_left_out, next_byte, next_outside}
-use Rattle.jcard_test.proofs.escapes.push_next.Goals as goal
+use Rattle.jcard_texts.proofs.QuotedTexts.{escaped_left_out, next_byte, next_outside}
+use Rattle.jcard_texts.proofs.escapes.push_next.Goals as goal
 
 pub returns-then-left_out-gt0 : goal.returns-then-left_out-gt0
 returns-then-left_out-gt0 c = ap (λ l. c.args.text.now.items ++ l) (sym (escaped_left_out c.args.left_out c.args.bytes.now c.if-left_out-gt0.true))

@@ -1,11 +1,11 @@
 //! Texts within quotes in XML.
 ghost use Rattle.std.specs.Prelude.{◌≡◌, ◌<◌, ◌++◌, length, drop, IfOk, MatchResult, OnOk};
-ghost use Rattle.jcard_test.specs.Escapes.{begins_outside, escape, escaped, escaped_behind};
+ghost use Rattle.jcard_texts.specs.Escapes.{begins_outside, escape, escaped, escaped_behind};
 
 use std::alloc::AllocError;
 
-/// Writes a text within quotes: a question mark stands for each character that XML lacks.
-pub(crate) fn push_escaped(text: &mut Vec<u8>, bytes: &[u8]) -> Result<(), AllocError>
+/// Writes a text within quotes after another: a question mark stands for each character that XML lacks.
+pub fn push_escaped(text: &mut Vec<u8>, bytes: &[u8]) -> Result<(), AllocError>
     ensures { OnOk result (text.new.items ≡ text.old.items ++ escaped bytes.now) }
 {
     let mut left_out = 0;

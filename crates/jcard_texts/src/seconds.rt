@@ -1,12 +1,12 @@
 //! Times in seconds.
 ghost use Rattle.std.specs.Prelude.{◌≡◌, ◌+◌, ◌%◌, ◌++◌, OnOk};
-ghost use Rattle.jcard_test.specs.Seconds.{micro_digits, seconds_text};
+ghost use Rattle.jcard_texts.specs.Seconds.{micro_digits, seconds_text};
 
 use itoa::Buffer;
 use std::alloc::AllocError;
 
 /// Writes microseconds as seconds, with six digits after the point.
-pub(crate) fn push_seconds(text: &mut Vec<u8>, microseconds: u64) -> Result<(), AllocError>
+pub fn push_seconds(text: &mut Vec<u8>, microseconds: u64) -> Result<(), AllocError>
     ensures { OnOk result (text.new.items ≡ text.old.items ++ seconds_text microseconds) }
 {
     let mut digits = Buffer::new();

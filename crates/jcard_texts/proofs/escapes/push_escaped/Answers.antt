@@ -1,8 +1,8 @@
 use Rattle.std.proofs.Common.{◌≡◌, ◌++◌, drop, subst}
-use Rattle.jcard_test.specs.Escapes.{escaped_behind}
-use Rattle.jcard_test.proofs.Items.{slice_rest}
-use Rattle.jcard_test.proofs.Reports.{escaped_next, escaped_whole}
-use Rattle.jcard_test.proofs.escapes.push_escaped.Goals as goal
+use Rattle.jcard_texts.specs.Escapes.{escaped_behind}
+use Rattle.jcard_texts.proofs.Items.{slice_rest}
+use Rattle.jcard_texts.proofs.QuotedTexts.{escaped_next, escaped_whole}
+use Rattle.jcard_texts.proofs.escapes.push_escaped.Goals as goal
 
 pub loop-place-preserved : goal.loop-place-preserved
 loop-place-preserved c = escaped_next c.loop-place.left_out c.in_ok-left_out.left_out c.args.bytes.now c.loop-place.place _ c.loop-place.text.items
