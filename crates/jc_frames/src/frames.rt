@@ -15,6 +15,9 @@ pub const MOST_CELLS: usize = 512;
 /// How many frames may stand one upon the other.
 pub const MOST_FRAMES: usize = 32;
 
+// How many of them may wait for calls.
+pub(crate) const MOST_CALLERS: usize = MOST_FRAMES - 1;
+
 /// Where the cells of a frame lie: its locals from `base` on, its stack from `bottom` on and below
 /// `ceiling`.
 #[derive(Clone, Copy, Default)]
@@ -38,7 +41,7 @@ pub(crate) struct SavedFrame {
 pub struct Frames {
     pub(crate) cells: FixedStack<Cell, MOST_CELLS>,
     pub(crate) current: Region,
-    pub(crate) saved: FixedStack<SavedFrame, 31>,
+    pub(crate) saved: FixedStack<SavedFrame, MOST_CALLERS>,
 }
 
 impl Model for Frames {
