@@ -11,7 +11,9 @@ ghost use Rattle.jc_platform.specs.Signatures.{argument_cells};
 ghost use Rattle.jc_interp.specs.Calling.{after_native_return, invoke_instruction, invoke_selected, native_invoke, static_invoke};
 
 use crate::natives::call_native;
-use crate::own_calls::{select_own_code, select_own_implementation, short_header_at};
+use crate::own_calls::{
+    select_own_code, select_own_implementation, select_own_special, short_header_at,
+};
 use jc_frames::instr::InvokeOp;
 use jc_frames::{CallKind, Frames, Outcome, header_at};
 use jc_instructions::enter::{CallSite, Callee, enter};
@@ -553,8 +555,47 @@ fn invoke_virtual<S: WordStore>(
     }
 }
 
-// A call of a constructor, of a private method or of a method of a superclass by the instruction at a place. What is handed over has memory of its
-// own.
+// A call of a constructor, of a private method or of a method of a superclass by the instruction at a place, out of line. On an own instance of the
+// very class that the entry names nothing else is asked.
+#[tactic(auto, unfolding(crate::specs::Calling::invoke_instruction, jc_instructions::specs::Invoke::method_selection, jc_instructions::specs::Invoke::header_of, jc_instructions::specs::Enter::method_entry))]
+#[inline(never)]
+fn invoke_special_code<S: WordStore>(
+    index: u16,
+    place: u16,
+    frames: &mut Frames,
+    memory: &mut Memory<S>,
+    linked: &Linked,
+) -> Result<(), StepExit>
+    requires up { memory.old.heap.down ≡ false }
+    ensures { Executes (invoke_instruction (Special index) place linked.now frames.old memory.old)
+        memory.old (after_instruction result frames.new memory.new) }
+{
+    let entry = linked.target_at(frames.origin().package_number, index);
+    if let Some(
+        Target::StaticMethod {
+            class,
+            method: Method::Code {
+                package_number,
+                offset,
+            },
+        },
+    ) = entry
+    {
+        let chosen = select_own_special(*class, *package_number, *offset, frames, memory, linked);
+        if let Some(call) = chosen {
+            return enter(
+                Some(call.header),
+                call.callee,
+                called_at(place),
+                frames,
+                memory,
+            );
+        }
+    }
+    invoke_other(InvokeOp::Special(index), place, frames, memory, linked)
+}
+
+// The same in line.
 #[inline(always)]
 fn invoke_special<S: WordStore>(
     index: u16,
@@ -567,7 +608,7 @@ fn invoke_special<S: WordStore>(
     ensures { Executes (invoke_instruction (Special index) place linked.now frames.old memory.old)
         memory.old (after_instruction result frames.new memory.new) }
 {
-    invoke_other(InvokeOp::Special(index), place, frames, memory, linked)
+    invoke_special_code(index, place, frames, memory, linked)
 }
 
 // A call of an interface's method, out of line. On an own instance nothing else is asked.

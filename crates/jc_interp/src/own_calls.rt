@@ -9,7 +9,7 @@ ghost use Rattle.jc_linker.specs.Values.{Packages};
 ghost use Rattle.jc_linker.specs.declared.target.Method.TheVariants.{Code};
 ghost use Rattle.jc_world.specs.Contexts.{firewall_decision};
 ghost use Rattle.jc_world.specs.Objects.{is_instance};
-ghost use Rattle.jc_instructions.specs.Invoke.{call_of, call_of_code, header_of, invokeinterface, invokevirtual, receiver_of};
+ghost use Rattle.jc_instructions.specs.Invoke.{call_of, call_of_code, header_of, invokeinterface, invokespecial, invokevirtual, receiver_of};
 ghost use Rattle.jc_instructions.specs.MethodComponent.{method_component_of};
 
 use jc_frames::{Cell, Frames, Header};
@@ -124,6 +124,41 @@ pub(crate) fn select_own_code<S: WordStore>(
 {
     let component = method_component_of(package_number, linked);
     let header = header_of_virtual(class, offset, component, frames, memory)?;
+    Some(CodeCall {
+        callee: Callee {
+            package_number,
+            offset,
+            arguments: header.arguments,
+            switches_to: None,
+        },
+        header,
+    })
+}
+
+/// The same of a call of a constructor or a private method, whose entry may name no class: then on any instance that belongs to this owner.
+#[inline(always)]
+#[tactic(auto, unfolding(jc_instructions::specs::Invoke::invokespecial, jc_instructions::specs::Invoke::arguments_of, jc_instructions::specs::Invoke::header_of, jc_instructions::specs::Parameters::fits), using(jc_world::proofs::Below::below_same))]
+pub(crate) fn select_own_special<S: WordStore>(
+    class: Option<ClassWord>,
+    package_number: u8,
+    offset: u16,
+    frames: &Frames,
+    memory: &Memory<S>,
+    linked: &Linked,
+) -> Option<CodeCall>
+    requires up { memory.now.heap.down ≡ false }
+    ensures chosen { IfSome result (λ r. invokespecial class (Code package_number offset)
+        linked.now frames.now.current.stack memory.now ≡ Ok (call_of_code r.callee)) }
+    ensures header { IfSome result (λ r. header_of linked.now
+        (Code r.callee.package_number r.callee.offset) ≡ Some r.header) }
+{
+    let header = short_header_at(method_component_of(package_number, linked), offset)?;
+    let receiver = own_receiver(header.arguments, frames, memory)?;
+    if let Some(class) = class {
+        if receiver.class() != class {
+            return None;
+        }
+    }
     Some(CodeCall {
         callee: Callee {
             package_number,
