@@ -3,3 +3,10 @@ pub mod Machines
 pub mod References
 pub mod MachineLaws
 pub mod MemoryLaws
+pub mod StableReading
+pub mod LoadedPackages
+pub mod ReadingLoads
+pub mod Growth
+pub mod GrowthLaws
+pub mod Separation
+pub mod Loads

@@ -10,14 +10,14 @@ use Rattle.jc_environment.specs.Objects.{last_of}
 use Rattle.jc_card.specs.Fixed.{last_fixed}
 use Rattle.jc_card.proofs.Objects.{last_numbered}
 use Rattle.jc_packages.specs.Objects.{is_persistent_instance}
-use Rattle.law_theorems.specs.StableReading.{IsReadAs}
-use Rattle.law_theorems.proofs.ReadingEffects.{keeps_reading}
+use Rattle.law_soundness.specs.StableReading.{IsReadAs}
+use Rattle.law_soundness.proofs.ReadingEffects.{keeps_reading}
 use Rattle.law_soundness.specs.MemoryLaws.Environment.{HasEnvironment, AreEnvironmentObjects}
 use Rattle.law_soundness.specs.MemoryLaws.State.{IsSoundMemory, IsSoundUpTo, last_own}
 use Rattle.law_soundness.proofs.Frames.{same_object}
 use Rattle.law_soundness.specs.MachineLaws.Commands.{IsServed}
 use Rattle.law_soundness.proofs.CommandEffects.{serving_keeps}
-use Rattle.law_theorems.specs.Loads.{AreLaidOut, IsLaidOut}
+use Rattle.law_soundness.specs.Loads.{AreLaidOut, IsLaidOut}
 use Rattle.law_theorems.proofs.HeapLayout.{effects_keep_layout}
 use Rattle.law_theorems.specs.Heaps.{IsOwnHeap}
 use Rattle.law_theorems.specs.NewImages.{EffectsKeepBeginnings, KeepsBeginning}

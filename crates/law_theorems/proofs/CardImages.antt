@@ -23,7 +23,7 @@ use Rattle.jc_packages.specs.Sound.{IsSound}
 use Rattle.jc_card.proofs.NewFronts.{sizes-new_card_heap}
 use Rattle.jc_card.specs.State.Power.{KeptState, Up, durable_rest}
 use Rattle.law_soundness.specs.MemoryLaws.State.{IsFitObject}
-use Rattle.law_theorems.specs.Loads.{IsLaidOut}
+use Rattle.law_soundness.specs.Loads.{IsLaidOut}
 use Rattle.law_theorems.specs.Heaps.{IsOwnHeap}
 use Rattle.law_theorems.proofs.CardHeaps.{own_at}
 use Rattle.law_theorems.proofs.NewImages.{new_images}

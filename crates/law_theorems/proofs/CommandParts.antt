@@ -28,7 +28,7 @@ use Rattle.law_soundness.proofs.CommandLaws.{commands_are_sound}
 use Rattle.law_soundness.proofs.CommandParts.{dispatched_apart, dispatched_more, nothing_more}
 use Rattle.law_theorems.specs.Cards.{IsOwnCard}
 use Rattle.law_theorems.specs.Outcomes.{AddNone, ComesWithin, memory_at}
-use Rattle.law_theorems.specs.LoadedPackages.{AreBytes}
+use Rattle.law_soundness.specs.LoadedPackages.{AreBytes}
 use Rattle.law_soundness.proofs.Phases.{Good}
 use Rattle.law_theorems.proofs.Commands.{IsAnswered, creates_good, dispatched_good, runs_good}
 use Rattle.law_theorems.proofs.Sessions.{linked_known}

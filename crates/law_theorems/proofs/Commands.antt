@@ -27,9 +27,9 @@ use Rattle.jc_card.specs.Card.{CardState}
 use Rattle.jc_card.specs.Dispatching.{with_response, create_applet, dispatch, expected_by, is_select, manager_aid, route, to_named}
 use Rattle.jc_card.specs.Dispatching.{to_selected}
 use Rattle.jc_card.specs.Loading.{LoadResponse, append_component, component_append_without_memory, load_command, on_load}
-use Rattle.law_theorems.specs.LoadedPackages.{AreBytes}
-use Rattle.law_theorems.specs.ReadingLoads.{IsOpenReadable}
-use Rattle.law_theorems.proofs.OpenLoads.{are_readable}
+use Rattle.law_soundness.specs.LoadedPackages.{AreBytes}
+use Rattle.law_soundness.specs.ReadingLoads.{IsOpenReadable}
+use Rattle.law_soundness.proofs.OpenLoads.{are_readable}
 use Rattle.law_soundness.specs.MemoryLaws.State.{is_applet}
 use Rattle.law_soundness.specs.MachineLaws.Soundness.{AreKnown}
 use Rattle.law_soundness.specs.MachineLaws.Commands.{CommandsAreSound, IsReady, IsServed, LeavesReady}

@@ -20,7 +20,7 @@ use Rattle.law_soundness.specs.MachineLaws.Commands.{IsServed}
 use Rattle.law_soundness.specs.MemoryLaws.State.{IsSoundMemory}
 use Rattle.law_theorems.specs.Cards.{IsOwnCard}
 use Rattle.law_theorems.specs.Outcomes.{memory_at}
-use Rattle.law_theorems.specs.LoadedPackages.{AreBytes}
+use Rattle.law_soundness.specs.LoadedPackages.{AreBytes}
 use Rattle.law_theorems.specs.Tries.{is_owner_pin, tries_in}
 use Rattle.law_theorems.proofs.Sessions.{linked_known}
 use Rattle.law_theorems.specs.SessionTheorems.Cuts.{IsBehind, IsHeapCutAt, KeepWhatWasDone, LeaveTheChangesBeforeThem, SetNoTries}

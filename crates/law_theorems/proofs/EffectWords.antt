@@ -31,7 +31,7 @@ use Rattle.law_soundness.specs.MemoryLaws.Fit.{AreCellsOf, FitPlaces, FitsChange
 use Rattle.law_soundness.specs.MemoryLaws.State.{IsSoundMemory}
 use Rattle.law_soundness.proofs.Effects.{event_none}
 use Rattle.law_soundness.proofs.Values.{none_of as none_is}
-use Rattle.law_theorems.specs.Separation.{StandApart, item_size}
+use Rattle.law_soundness.specs.Separation.{StandApart, item_size}
 use Rattle.law_theorems.specs.Tries.{SetsAnew}
 
 -- the words that an effect names, of those whose old values an abort needs

@@ -51,7 +51,7 @@ use Rattle.law_soundness.specs.MachineLaws.CommandParts.{IsOfRun}
 use Rattle.law_theorems.specs.Cards.{AreOfBytes, IsOwnKept, StaysOwn}
 use Rattle.law_theorems.specs.Outcomes.{AddNone, ComesTo, ComesWithin, memory_at}
 use Rattle.law_theorems.specs.Heaps.{IsOwnHeap}
-use Rattle.law_theorems.specs.LoadedPackages.{AreBytes}
+use Rattle.law_soundness.specs.LoadedPackages.{AreBytes}
 use Rattle.law_theorems.specs.Tries.{is_owner_pin}
 use Rattle.law_theorems.proofs.Sessions.{stays_own}
 use Rattle.law_theorems.specs.SessionTheorems.Cuts.{IsHeapCutAt}

@@ -16,7 +16,7 @@ use Rattle.jc_linker.specs.Values.{Packages}
 use Rattle.law_soundness.specs.MachineLaws.Commands.{IsServed}
 use Rattle.law_soundness.specs.MemoryLaws.State.{IsSoundMemory}
 use Rattle.law_soundness.proofs.Memories.{choose}
-use Rattle.law_theorems.specs.Loads.{AreLaidOut, CountsPackages, EffectsKeepLayout, IsLaidOut}
+use Rattle.law_soundness.specs.Loads.{AreLaidOut, CountsPackages, EffectsKeepLayout, IsLaidOut}
 use Rattle.law_theorems.proofs.Separation.{new_object_apart, place_apart, places_apart, run_apart, transient_apart}
 
 cell_counts : (h : HeapState) (r i v : ℕ) → CountsPackages h → CountsPackages (set_cell h r i v)

@@ -11,7 +11,7 @@ use Rattle.jc_heap.proofs.Laws.{object_named}
 use Rattle.law_soundness.specs.MemoryLaws.State.{TransientCells}
 use Rattle.law_soundness.proofs.Transients.{added, more_carried, no_elements}
 use Rattle.law_theorems.proofs.Separation.{record_some}
-use Rattle.law_theorems.proofs.LoadRecords.{item_beside, item_pushed}
+use Rattle.law_soundness.proofs.LoadRecords.{item_beside, item_pushed}
 
 -- arrays that are added are persistent
 arrays_carried : (h : HeapState) (ram : RamState) (owner : ℕ) (xs : List (Kind × List ℕ)) → HasEnd h → TransientCells h ram

@@ -23,12 +23,12 @@ use Rattle.jc_packages.specs.declared.load_refusal.LoadRefusal.TheVariants.{Heap
 use Rattle.jc_packages.specs.LoadEnd.{LoadResult, assembly_result, with_dropped_load, after_addition, after_preparation, end_of_load}
 use Rattle.jc_card.specs.Card.{CardState}
 use Rattle.jc_card.specs.Loading.{LoadResponse, answer_of_left, end_load}
-use Rattle.law_theorems.specs.LoadedPackages.{AreBytes, IsReadable}
-use Rattle.law_theorems.specs.ReadingLoads.{IsOpenReadable}
-use Rattle.law_theorems.proofs.Ends.{ends_keep}
-use Rattle.law_theorems.proofs.OneMore.{growth_keeps_read}
+use Rattle.law_soundness.specs.LoadedPackages.{AreBytes, IsReadable}
+use Rattle.law_soundness.specs.ReadingLoads.{IsOpenReadable}
+use Rattle.law_soundness.proofs.Ends.{ends_keep}
+use Rattle.law_soundness.proofs.OneMore.{growth_keeps_read}
 use Rattle.law_soundness.specs.MemoryLaws.State.{is_open}
-use Rattle.law_theorems.specs.Loads.{IsSoundForLoads, LoadsKeepSound, load_move}
+use Rattle.law_soundness.specs.Loads.{IsSoundForLoads, LoadsKeepSound, load_move}
 use Rattle.law_theorems.specs.NewImages.{EffectsKeepBeginnings, KeepsBeginning}
 use Rattle.law_theorems.specs.Cards.{AreLinkedWell, IsOwnCard}
 use Rattle.law_theorems.proofs.Commands.{own_memory}

@@ -24,14 +24,14 @@ use Rattle.jc_packages.specs.PendingPackages.{PendingPackageValue, linked_compon
 use Rattle.jc_packages.specs.Objects.{is_instance, is_persistent_instance}
 use Rattle.law_soundness.specs.MemoryLaws.Environment.{HasEnvironment, AreEnvironmentObjects}
 use Rattle.law_soundness.specs.MemoryLaws.State.{IsSoundMemory, IsSoundUpTo, is_home, is_open, is_owner_up_to, last_own, most_owner}
-use Rattle.law_theorems.specs.Growth.{GrowthKeepsSound}
-use Rattle.law_theorems.proofs.Grows.{growth_keeps}
-use Rattle.law_theorems.specs.Loads.{AreLaidOut, CountsPackages, IsLaidOut, IsSoundForLoads, LoadsKeepSound, load_move, with_record}
-use Rattle.law_theorems.proofs.RecordFit.{records_fit}
-use Rattle.law_theorems.proofs.PreparedPackages.{initial_arrays}
-use Rattle.law_theorems.proofs.LoadRecords.{applets_same, counts_grown, item_low, item_old, longer, no_instance, old_or_new}
+use Rattle.law_soundness.specs.Growth.{GrowthKeepsSound}
+use Rattle.law_soundness.proofs.Grows.{growth_keeps}
+use Rattle.law_soundness.specs.Loads.{AreLaidOut, CountsPackages, IsLaidOut, IsSoundForLoads, LoadsKeepSound, load_move, with_record}
+use Rattle.law_soundness.proofs.RecordFit.{records_fit}
+use Rattle.law_soundness.proofs.PreparedPackages.{initial_arrays}
+use Rattle.law_soundness.proofs.LoadRecords.{applets_same, counts_grown, item_low, item_old, longer, no_instance, old_or_new}
 use Rattle.law_theorems.proofs.LivingLoads.{package_carried}
-use Rattle.law_theorems.proofs.Whole.{package_stands}
+use Rattle.law_soundness.proofs.Whole.{package_stands}
 use Rattle.law_theorems.proofs.Separation.{package_apart}
 
 -- owners, with one package more

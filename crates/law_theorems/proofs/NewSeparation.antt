@@ -9,7 +9,7 @@ use Rattle.jc_platform.specs.Tokens.{Tokens}
 use Rattle.jc_card.specs.Fixed.{class_number_of, with_objects}
 use Rattle.jc_card.specs.ProductImages.{new_card_heap, objects_in}
 use Rattle.jc_card.proofs.FixedObjects.{IsBelow, below-one, with_one}
-use Rattle.law_theorems.specs.Separation.{StandApart}
+use Rattle.law_soundness.specs.Separation.{StandApart}
 use Rattle.law_theorems.proofs.Separation.{transient_apart}
 
 objects_apart : (t : Tokens) (h : HeapState) (os : List _) → IsBelow h → StandApart h → StandApart (with_objects t h os)

@@ -24,7 +24,7 @@ use Rattle.law_soundness.specs.MachineLaws.Commands.{IsServed}
 use Rattle.law_soundness.specs.MemoryLaws.Fit.{IsPinObject}
 use Rattle.law_soundness.specs.MemoryLaws.State.{IsSoundMemory}
 use Rattle.law_soundness.proofs.CommandEffects.{serving_keeps}
-use Rattle.law_theorems.specs.LoadedPackages.{AreBytes}
+use Rattle.law_soundness.specs.LoadedPackages.{AreBytes}
 use Rattle.law_theorems.specs.Cards.{IsOwnCard}
 use Rattle.law_theorems.proofs.EffectWords.{is_value, when_not, word_is}
 use Rattle.law_theorems.proofs.ServedEffects.{AddsPackage, IsFine, commands_fine}

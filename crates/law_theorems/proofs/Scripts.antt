@@ -36,7 +36,7 @@ use Rattle.jcard_texts.specs.Texts.{IsCutOf}
 use Rattle.jcard_script.proofs.Decoding.{command_bytes}
 use Rattle.jcard_script.proofs.Words.{form_command}
 use Rattle.law_theorems.specs.Cards.{AreOfBytes}
-use Rattle.law_theorems.specs.LoadedPackages.{AreBytes}
+use Rattle.law_soundness.specs.LoadedPackages.{AreBytes}
 use Rattle.law_theorems.proofs.Rest.{leave_at_rest, rests_so}
 use Rattle.law_theorems.proofs.Steps.{cut_kept}
 use Rattle.jc_card.proofs.Starts.{fault_starts, starts_off, starts_up}

@@ -20,7 +20,7 @@ use Rattle.jc_heap.proofs.Laws.{top-add_object, top-set_cell}
 use Rattle.jc_heap.proofs.Packing.{length-packed_words}
 use Rattle.jc_heap.proofs.RecordWords.{header_only-set_word, is_allocated-set_word, top_after-set_word}
 use Rattle.jc_heap.proofs.Tables.{at_or-push_other, at_or-push_same, has-push}
-use Rattle.law_theorems.specs.Separation.{StandApart, item_size}
+use Rattle.law_soundness.specs.Separation.{StandApart, item_size}
 
 bare_size : (t : Item) → item_size (header_only t) ≡ item_size t
 bare_size (AnObject o) = refl

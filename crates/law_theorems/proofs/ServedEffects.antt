@@ -10,7 +10,7 @@ use Rattle.jc_platform.specs.Tokens.{Tokens}
 use Rattle.jc_card.specs.Answers.{exchange}
 use Rattle.jc_card.specs.Card.{CardState}
 use Rattle.law_theorems.specs.Cards.{IsOwnCard}
-use Rattle.law_theorems.specs.LoadedPackages.{AreBytes}
+use Rattle.law_soundness.specs.LoadedPackages.{AreBytes}
 use Rattle.law_theorems.proofs.Commands.{creates_good, dispatched_good, runs_good}
 use Rattle.law_theorems.proofs.Sessions.{linked_known}
 use Rattle.law_soundness.specs.MachineLaws.Commands.{IsServed}

@@ -36,8 +36,8 @@ use Rattle.jc_card.specs.Session.Starting.{IsPoweredUp}
 use Rattle.law_code.proofs.Aids.{have_aids}
 use Rattle.law_code.proofs.ClassLaws.{have_classes}
 use Rattle.law_code.proofs.MethodLaws.{have_methods, have_no_code}
-use Rattle.law_theorems.specs.LoadedPackages.{AreBytes}
-use Rattle.law_theorems.proofs.OpenLoads.{are_readable}
+use Rattle.law_soundness.specs.LoadedPackages.{AreBytes}
+use Rattle.law_soundness.proofs.OpenLoads.{are_readable}
 use Rattle.law_soundness.specs.MemoryLaws.State.{IsSoundMemory, IsSoundUpTo}
 use Rattle.law_soundness.proofs.Transients.{blank_lives}
 use Rattle.law_soundness.specs.MachineLaws.Soundness.{AreKnown}
@@ -47,7 +47,7 @@ use Rattle.law_theorems.specs.Heaps.{IsOwnHeap}
 use Rattle.law_theorems.proofs.Memories.{loads_are_sound}
 use Rattle.law_theorems.proofs.ImageEffects.{effects_keep}
 use Rattle.law_theorems.specs.Cards.{AreLinkedWell, AreOfBytes, IsOfBytes, IsOwnCard, IsOwnKept, IsOwnPower, StaysOwn}
-use Rattle.law_theorems.specs.Loads.{IsLaidOut}
+use Rattle.law_soundness.specs.Loads.{IsLaidOut}
 use Rattle.law_theorems.proofs.Commands.{IsAnswered, answers_good, creates_good, did_own, dispatched_good, grows_good, loads_good, lost_own, on_load_good}
 use Rattle.law_theorems.proofs.Commands.{own_memory, runs_good}
 use Rattle.law_theorems.proofs.CardHeaps.{IsLeft, left_own, own_at}

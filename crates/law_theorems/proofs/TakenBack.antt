@@ -18,7 +18,7 @@ use Rattle.jc_card.specs.Session.Starting.{IsPoweredUp}
 use Rattle.law_code.specs.Orderly.{KeepsTransactionOrder}
 use Rattle.law_code.specs.TransactionLaws.{IsDurableOutside, TearLeavesAfter}
 use Rattle.law_code.proofs.AtomicEffects.{begun_inside, behind, lost_at}
-use Rattle.law_theorems.specs.LoadedPackages.{AreBytes}
+use Rattle.law_soundness.specs.LoadedPackages.{AreBytes}
 use Rattle.law_theorems.specs.Cards.{IsOfBytes, IsOwnCard}
 use Rattle.law_theorems.proofs.Rest.{leave_at_rest, rests_so}
 use Rattle.law_theorems.specs.Outcomes.{AreDown, ComesTo, IsDown, memory_at}

@@ -35,7 +35,7 @@ use Rattle.law_code.proofs.ByteTokens.{have_bytes}
 use Rattle.law_theorems.specs.Cards.{IsOwnKept}
 use Rattle.law_theorems.specs.Outcomes.{ComesTo}
 use Rattle.law_theorems.specs.Heaps.{IsOwnHeap}
-use Rattle.law_theorems.specs.LoadedPackages.{AreBytes}
+use Rattle.law_soundness.specs.LoadedPackages.{AreBytes}
 use Rattle.law_theorems.proofs.CardHeaps.{own_at}
 use Rattle.law_theorems.proofs.CardImages.{new_layout}
 use Rattle.law_theorems.proofs.NewImages.{new_images}

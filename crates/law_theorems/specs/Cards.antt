@@ -5,15 +5,15 @@ use Rattle.jc_linker.specs.Values.{Packages}
 use Rattle.jc_linker.specs.Values.{LinkerComponents}
 use Rattle.jc_card.specs.Card.{CardState}
 use Rattle.law_code.specs.ReadPackages.{AreRead}
-use Rattle.law_theorems.specs.GrowthLaws.{HaveAppletComponents}
+use Rattle.law_soundness.specs.GrowthLaws.{HaveAppletComponents}
 use Rattle.jc_card.specs.Session.Requests.{Request, Command, Reset, ArmFuse, PlanFault, Reply}
 use Rattle.jc_card.specs.State.Power.{PowerState, Up, Off, KeptState}
 use Rattle.jc_card.specs.Session.Serving.{Serves, SessionRun}
-use Rattle.law_theorems.specs.StableReading.{IsReadAs}
-use Rattle.law_theorems.specs.LoadedPackages.{AreBytes}
-use Rattle.law_theorems.specs.ReadingLoads.{IsOpenReadable}
+use Rattle.law_soundness.specs.StableReading.{IsReadAs}
+use Rattle.law_soundness.specs.LoadedPackages.{AreBytes}
+use Rattle.law_soundness.specs.ReadingLoads.{IsOpenReadable}
 use Rattle.law_soundness.specs.MachineLaws.Commands.{IsReady}
-use Rattle.law_theorems.specs.Loads.{AreLaidOut, IsLaidOut}
+use Rattle.law_soundness.specs.Loads.{AreLaidOut, IsLaidOut}
 use Rattle.law_theorems.specs.Heaps.{IsOwnHeap}
 use Rattle.law_theorems.specs.NewImages.{KeepsBeginning}
 

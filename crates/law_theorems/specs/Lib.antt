@@ -1,10 +1,3 @@
-pub mod StableReading
-pub mod LoadedPackages
-pub mod ReadingLoads
-pub mod Growth
-pub mod GrowthLaws
-pub mod Separation
-pub mod Loads
 pub mod Heaps
 pub mod NewImages
 pub mod Cards

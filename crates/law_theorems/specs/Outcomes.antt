@@ -10,7 +10,7 @@ use Rattle.jc_card.specs.Session.Requests.{Request, Reply, Response, Ready, Down
 use Rattle.jc_card.specs.State.Power.{PowerState, Up, Off, KeptState, StoreState}
 use Rattle.jc_card.specs.Session.Serving.{SessionRun}
 use Rattle.jc_card.specs.Session.{IsSession}
-use Rattle.law_theorems.specs.LoadedPackages.{AreBytes}
+use Rattle.law_soundness.specs.LoadedPackages.{AreBytes}
 use Rattle.law_theorems.specs.Cards.{AreOfBytes, IsOwnKept}
 use Rattle.law_theorems.specs.CardLaws.{IsOwnStore}
 

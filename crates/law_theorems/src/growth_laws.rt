@@ -1,5 +1,5 @@
 //! Laws of packages that are read.
-ghost use Rattle.law_theorems.specs.GrowthLaws.{ImagesHaveWords, RecordsAreRead};
+ghost use Rattle.law_soundness.specs.GrowthLaws.{ImagesHaveWords, RecordsAreRead};
 
 /// The packages that a heap's records are read as, after a platform of which a table was read with tokens of
 /// one byte each, were linked, each onto those before it, from class records that are those of a Class

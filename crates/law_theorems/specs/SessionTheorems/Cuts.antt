@@ -15,7 +15,7 @@ use Rattle.jc_card.specs.Session.Serving.{AnswersCommand, SessionRun}
 use Rattle.law_code.specs.PinChanges.{IsChanged}
 use Rattle.law_theorems.specs.Outcomes.{AreDown, ComesTo, memory_at}
 use Rattle.law_theorems.specs.Losses.{IsLeft}
-use Rattle.law_theorems.specs.LoadedPackages.{AreBytes}
+use Rattle.law_soundness.specs.LoadedPackages.{AreBytes}
 use Rattle.law_theorems.specs.Tries.{SetsAnew, is_owner_pin, tries_in}
 
 -- a command is cut when exactly k of its writes have passed: it began with these effects, the refused write is one of theirs, and this is the

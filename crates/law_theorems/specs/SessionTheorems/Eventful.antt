@@ -18,7 +18,7 @@ use Rattle.jc_card.specs.Session.Serving.{AnswersCommand, SessionRun}
 use Rattle.law_code.specs.Reach.{IsOutside}
 use Rattle.law_code.specs.PinChanges.{IsChanged}
 use Rattle.law_theorems.specs.Outcomes.{ComesTo, ComesWithin, memory_at}
-use Rattle.law_theorems.specs.LoadedPackages.{AreBytes}
+use Rattle.law_soundness.specs.LoadedPackages.{AreBytes}
 use Rattle.law_theorems.specs.Tries.{IsUpdate, is_owner_pin}
 use Rattle.law_theorems.specs.SessionTheorems.Cuts.{IsHeapCutAt, SetNoTries}
 use Rattle.law_theorems.specs.SessionTheorems.Isolation.{RunsApart}

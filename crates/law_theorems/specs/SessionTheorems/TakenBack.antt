@@ -12,7 +12,7 @@ use Rattle.jc_card.specs.Session.Serving.{AnswersCommand, SessionRun}
 use Rattle.law_theorems.specs.Cards.{IsOfBytes}
 use Rattle.law_theorems.specs.Outcomes.{AreDown, ComesTo, ComesWithin, memory_at}
 use Rattle.law_theorems.specs.Losses.{IsLeftBy, IsWhatWasFound}
-use Rattle.law_theorems.specs.LoadedPackages.{AreBytes}
+use Rattle.law_soundness.specs.LoadedPackages.{AreBytes}
 use Rattle.law_theorems.specs.Rest.{IsResting}
 
 pub record IsTakenBack : Type 0 where

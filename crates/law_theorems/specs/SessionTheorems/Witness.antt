@@ -22,7 +22,7 @@ use Rattle.jc_card.specs.State.Power.{PowerState, Up, Off, KeptState, StoreState
 use Rattle.jc_card.specs.Session.Serving.{AnswersCommand, Serves, SessionRun}
 use Rattle.jc_card.specs.Session.{SessionEnds}
 use Rattle.law_theorems.specs.Outcomes.{ComesTo, ComesWithin}
-use Rattle.law_theorems.specs.LoadedPackages.{AreBytes}
+use Rattle.law_soundness.specs.LoadedPackages.{AreBytes}
 use Rattle.law_theorems.specs.DownRuns.{ArmNone}
 use Rattle.law_theorems.specs.SessionTheorems.Fuse.{refusals_of}
 use Rattle.law_theorems.specs.SessionTheorems.References.{RunsFrom}

@@ -1,4 +1,4 @@
-use Rattle.law_theorems.proofs.Words.{images_have_words}
+use Rattle.law_soundness.proofs.Words.{images_have_words}
 use Rattle.law_theorems.proofs.growth_laws.package_records_are_of_words.Goals as goal
 
 pub returns : goal.returns

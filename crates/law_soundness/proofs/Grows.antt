@@ -17,9 +17,9 @@ use Rattle.jc_packages.specs.Sound.{HoldsStatics, IsRegistered, entry_word, pack
 use Rattle.law_code.specs.ResolutionLaws.{ClassStays, Stays}
 use Rattle.law_code.proofs.ResolutionLaws.{adding_keeps}
 use Rattle.law_soundness.specs.MemoryLaws.State.{IsFitObject, IsSoundUpTo}
-use Rattle.law_theorems.specs.Growth.{GrowthKeepsSound}
-use Rattle.law_theorems.proofs.Names.{a_beside, class_beside}
-use Rattle.law_theorems.proofs.Prepares.{prepares}
+use Rattle.law_soundness.specs.Growth.{GrowthKeepsSound}
+use Rattle.law_soundness.proofs.Names.{a_beside, class_beside}
+use Rattle.law_soundness.proofs.Prepares.{prepares}
 
 module _ (p : Packages) (q : PackageValue) (room : length p.loaded < 32) (stays : Stays p (with_package p q) (next_number p)) where
   abbrev more : Packages

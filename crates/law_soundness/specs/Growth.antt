@@ -9,7 +9,7 @@ use Rattle.jc_packages.specs.PendingPackages.{PendingPackageValue, linked_compon
 use Rattle.law_code.specs.LinkedPackages.{AreLinked}
 use Rattle.law_code.specs.ReadPackages.{AreRead}
 use Rattle.law_soundness.specs.MemoryLaws.State.{IsSoundUpTo}
-use Rattle.law_theorems.specs.GrowthLaws.{HaveAppletComponents}
+use Rattle.law_soundness.specs.GrowthLaws.{HaveAppletComponents}
 
 -- what fits packages that were linked fits them with one more, which was prepared onto them
 abbrev pub GrowthKeepsSound : Type 0

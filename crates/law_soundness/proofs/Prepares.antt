@@ -14,7 +14,7 @@ use Rattle.jc_packages.specs.PendingPackages.{PendingPackageValue, if_read, link
 use Rattle.jc_packages.specs.LinkerView.{linker_view}
 use Rattle.jc_packages.specs.declared.load_refusal.LoadRefusal.{LoadRefusal}
 use Rattle.jc_packages.specs.declared.load_refusal.LoadRefusal.TheVariants.{AidTaken, Full}
-use Rattle.law_theorems.proofs.RecordPackages.{linked_ok, read_ok, refused}
+use Rattle.law_soundness.proofs.RecordPackages.{linked_ok, read_ok, refused}
 
 abbrev prepared_or : PendingPackageValue → Result PendingPackageValue LoadRefusal → PendingPackageValue
 prepared_or d (Ok q) = q

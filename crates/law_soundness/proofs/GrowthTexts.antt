@@ -28,8 +28,8 @@ use Rattle.jc_packages.specs.Reading.{text_at, text_in}
 use Rattle.law_code.proofs.ClosedPackages.{anything}
 use Rattle.law_code.proofs.Lists.{IfThere, map_there}
 use Rattle.law_code.specs.ReadPackages.{HasAppletComponent}
-use Rattle.law_theorems.specs.GrowthLaws.{AreWords}
-use Rattle.law_theorems.proofs.RecordPackages.{has_all}
+use Rattle.law_soundness.specs.GrowthLaws.{AreWords}
+use Rattle.law_soundness.proofs.RecordPackages.{has_all}
 
 -- ---- bytes
 

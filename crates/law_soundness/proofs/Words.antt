@@ -6,7 +6,7 @@ use Rattle.jc_heap.specs.Heap.{heap_item_at, read_image}
 use Rattle.jc_heap.specs.Image.{base, image, is_package, item, item_entry, package_addresses, records, sizes}
 use Rattle.jc_heap.specs.Object.{Item, AnObject, APackage, object_of}
 use Rattle.law_code.proofs.Lists.{AllOf}
-use Rattle.law_theorems.specs.GrowthLaws.{AreWords, ImagesHaveWords}
+use Rattle.law_soundness.specs.GrowthLaws.{AreWords, ImagesHaveWords}
 
 no_words : AreWords []
 no_words i = omega arith

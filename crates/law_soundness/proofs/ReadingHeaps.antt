@@ -24,7 +24,7 @@ use Rattle.law_soundness.proofs.Cells.{record-set_cell}
 use Rattle.law_soundness.proofs.Statics.{record-other, record-set_word, statics_set}
 use Rattle.law_soundness.proofs.Pins.{packages-set_place}
 use Rattle.law_soundness.proofs.Objects.{packages-add_object}
-use Rattle.law_theorems.proofs.ReadingRecords.{load_set}
+use Rattle.law_soundness.proofs.ReadingRecords.{load_set}
 
 -- the same packages' records say the same of their components
 pub record TellSame (h g : HeapState) : Type 0 where

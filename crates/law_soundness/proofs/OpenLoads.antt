@@ -10,8 +10,8 @@ use Rattle.jc_packages.specs.Incoming.{IncomingValue}
 use Rattle.jc_cap.specs.Texts.{with_component}
 use Rattle.jc_packages.specs.Load.{CommandResult, content_in, empty_load, component_begin, is_tag, load_with, more_of, read_of}
 use Rattle.law_soundness.proofs.Memories.{choose}
-use Rattle.law_theorems.specs.LoadedPackages.{AreBytes, IsReadable}
-use Rattle.law_theorems.specs.ReadingLoads.{IsOpenReadable, LoadsAreReadable}
+use Rattle.law_soundness.specs.LoadedPackages.{AreBytes, IsReadable}
+use Rattle.law_soundness.specs.ReadingLoads.{IsOpenReadable, LoadsAreReadable}
 
 -- ---- the components that came
 

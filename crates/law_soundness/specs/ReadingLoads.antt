@@ -10,8 +10,8 @@ use Rattle.jc_packages.specs.Reading.{packages_of}
 use Rattle.jc_packages.specs.declared.load.OpenLoad.{OpenLoad}
 use Rattle.jc_packages.specs.LoadEnd.{LoadResult, end_of_load}
 use Rattle.jc_packages.specs.Load.{empty_load, component_begin, component_end, component_append}
-use Rattle.law_theorems.specs.StableReading.{IsReadAs}
-use Rattle.law_theorems.specs.LoadedPackages.{AreBytes, IsReadable}
+use Rattle.law_soundness.specs.StableReading.{IsReadAs}
+use Rattle.law_soundness.specs.LoadedPackages.{AreBytes, IsReadable}
 
 -- an open load whose components can be read of a record: what came is bytes
 pub record IsOpenReadable (load : OpenLoad) : Type 0 where

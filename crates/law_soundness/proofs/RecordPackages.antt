@@ -22,8 +22,8 @@ use Rattle.jc_linker.specs.Linking.{link_result}
 use Rattle.jc_packages.specs.declared.load_refusal.LoadRefusal.{LoadRefusal}
 use Rattle.jc_packages.specs.PendingPackages.{PendingPackageValue, if_linked, if_read, linked_components, linked_package}
 use Rattle.jc_packages.specs.LinkerView.{linker_view}
-use Rattle.law_theorems.specs.LoadedPackages.{AreBytes, IsReadable}
-use Rattle.law_theorems.proofs.ReadingTexts.{AreRead, IsRead, IsReadIf, kept}
+use Rattle.law_soundness.specs.LoadedPackages.{AreBytes, IsReadable}
+use Rattle.law_soundness.proofs.ReadingTexts.{AreRead, IsRead, IsReadIf, kept}
 
 -- the components without those that a record doesn't keep
 abbrev pub bare : PackageBytes → PackageBytes

@@ -17,7 +17,7 @@ use Rattle.jc_packages.specs.PendingPackages.{PendingPackageValue, linked_compon
 use Rattle.law_soundness.specs.MachineLaws.Commands.{IsServed}
 use Rattle.law_soundness.specs.MemoryLaws.Environment.{HasEnvironment}
 use Rattle.law_soundness.specs.MemoryLaws.State.{IsSoundMemory, IsSoundUpTo, is_open}
-use Rattle.law_theorems.specs.Separation.{StandApart}
+use Rattle.law_soundness.specs.Separation.{StandApart}
 
 -- the heap counts its packages
 abbrev pub CountsPackages : HeapState → Type 0

@@ -19,11 +19,11 @@ use Rattle.jc_packages.specs.RecordContents.{array_of, arrays_of, image_of, part
 use Rattle.jc_packages.specs.PendingPackages.{PendingPackageValue}
 use Rattle.jc_packages.specs.Objects.{is_reference, is_object_address}
 use Rattle.jc_packages.specs.Sound.{HoldsStatics}
-use Rattle.law_theorems.specs.Loads.{RecordsFit, with_record}
-use Rattle.law_theorems.proofs.Arrays.{arrays_stand}
-use Rattle.law_theorems.proofs.LoadImages.{address_is, null_is}
-use Rattle.law_theorems.proofs.PreparedPackages.{IsPrepared, adds_up, image_references_is, image_size_is, initial_arrays, is_prepared, some_parts, tagged_parts}
-use Rattle.law_theorems.proofs.LoadRecords.{fits_grown, image_held}
+use Rattle.law_soundness.specs.Loads.{RecordsFit, with_record}
+use Rattle.law_soundness.proofs.RecordArrays.{arrays_stand}
+use Rattle.law_soundness.proofs.LoadImages.{address_is, null_is}
+use Rattle.law_soundness.proofs.PreparedPackages.{IsPrepared, adds_up, image_references_is, image_size_is, initial_arrays, is_prepared, some_parts, tagged_parts}
+use Rattle.law_soundness.proofs.LoadRecords.{fits_grown, image_held}
 
 -- the last package's static image
 slice_last : {A : Type 0} (xs : List A) (y : A) → slice_get (xs ++ y ∷ []) (length xs) ≡ Some y

@@ -21,12 +21,12 @@ use Rattle.jc_linker.specs.Linking.{with_package}
 use Rattle.jc_packages.specs.RecordContents.{parts_of}
 use Rattle.jc_packages.specs.PendingPackages.{PendingPackageValue, linked_components}
 use Rattle.jc_packages.specs.Reading.{load_of, packages_of, with_prepared, with_records}
-use Rattle.law_theorems.specs.StableReading.{IsReadAs}
-use Rattle.law_theorems.specs.LoadedPackages.{IsReadable, LoadedPackagesReadBack}
-use Rattle.law_theorems.proofs.ReadingHeaps.{records_same}
-use Rattle.law_theorems.proofs.RecordPackages.{Prepares, are_read, assembled_is, has_all, prepares}
-use Rattle.law_theorems.proofs.ReadingTexts.{AreRead, load_back}
-use Rattle.law_theorems.proofs.Arrays.{item_behind}
+use Rattle.law_soundness.specs.StableReading.{IsReadAs}
+use Rattle.law_soundness.specs.LoadedPackages.{IsReadable, LoadedPackagesReadBack}
+use Rattle.law_soundness.proofs.ReadingHeaps.{records_same}
+use Rattle.law_soundness.proofs.RecordPackages.{Prepares, are_read, assembled_is, has_all, prepares}
+use Rattle.law_soundness.proofs.ReadingTexts.{AreRead, load_back}
+use Rattle.law_soundness.proofs.RecordArrays.{item_behind}
 use Rattle.law_soundness.proofs.Objects.{packages-add_object}
 
 -- ---- what stands in the heap

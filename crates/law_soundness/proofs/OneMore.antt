@@ -10,10 +10,10 @@ use Rattle.law_code.specs.LinkedPackages.{AreLinkedAgainst, IsLinkedAgainst}
 use Rattle.law_code.proofs.LinkAnswers.{some_value}
 use Rattle.law_code.proofs.Lists.{IfThere}
 use Rattle.law_code.specs.ReadPackages.{HasAppletComponent, HasClassComponent}
-use Rattle.law_theorems.specs.Growth.{GrowthKeepsRead}
-use Rattle.law_theorems.proofs.Prepares.{prepares}
-use Rattle.law_theorems.proofs.GrowthRecords.{components_good, linked_onto}
-use Rattle.law_theorems.proofs.GrowthTexts.{IsOfBytes}
+use Rattle.law_soundness.specs.Growth.{GrowthKeepsRead}
+use Rattle.law_soundness.proofs.Prepares.{prepares}
+use Rattle.law_soundness.proofs.GrowthRecords.{components_good, linked_onto}
+use Rattle.law_soundness.proofs.GrowthTexts.{IsOfBytes}
 
 each_behind : {A : Type 0} (P : A → Type 0) (xs : List A) (y : A) → ((i : ℕ) (x : A) → slice_get xs i ≡ Some x → P x) → P y → (i : ℕ) (x : A)
     → slice_get (xs ++ y ∷ []) i ≡ Some x → P x

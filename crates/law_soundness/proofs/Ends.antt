@@ -19,10 +19,10 @@ use Rattle.jc_packages.specs.Reading.{packages_of}
 use Rattle.jc_packages.specs.declared.load_refusal.LoadRefusal.{LoadRefusal}
 use Rattle.jc_packages.specs.declared.load.OpenLoad.{OpenLoad}
 use Rattle.jc_packages.specs.LoadEnd.{LoadResult, assembly_result, after_addition, after_preparation, end_of_load}
-use Rattle.law_theorems.specs.StableReading.{IsReadAs}
-use Rattle.law_theorems.specs.LoadedPackages.{IsReadable}
-use Rattle.law_theorems.specs.ReadingLoads.{IsOpenReadable, LoadEndsKeepReading}
-use Rattle.law_theorems.proofs.AddedPackages.{read_back}
+use Rattle.law_soundness.specs.StableReading.{IsReadAs}
+use Rattle.law_soundness.specs.LoadedPackages.{IsReadable}
+use Rattle.law_soundness.specs.ReadingLoads.{IsOpenReadable, LoadEndsKeepReading}
+use Rattle.law_soundness.proofs.AddedPackages.{read_back}
 
 -- one way or the other
 either : (P : Program LoadResult → Type 0) (G : Type 0) (b : Bool) (x y : Program LoadResult) → (P x → G) → (P y → G) → P (if b then x else y) → G

@@ -18,9 +18,9 @@ use Rattle.law_code.specs.LinkedPackages.{AreLinkedAgainst, IsLinkedAgainst}
 use Rattle.law_code.proofs.LinkAnswers.{some_value}
 use Rattle.law_code.proofs.Lists.{AllOf, IfThere, all_at}
 use Rattle.law_code.specs.ReadPackages.{HasAppletComponent, HasByteTokens, HasClassComponent}
-use Rattle.law_theorems.specs.GrowthLaws.{AreWords, RecordsAreRead}
-use Rattle.law_theorems.proofs.Prepares.{IsPrepared, prepares}
-use Rattle.law_theorems.proofs.GrowthTexts.{IsOfBytes, applet_component, applets_said, assembled_applets, class_component, few_classes, text_bytes}
+use Rattle.law_soundness.specs.GrowthLaws.{AreWords, RecordsAreRead}
+use Rattle.law_soundness.proofs.Prepares.{IsPrepared, prepares}
+use Rattle.law_soundness.proofs.GrowthTexts.{IsOfBytes, applet_component, applets_said, assembled_applets, class_component, few_classes, text_bytes}
 
 -- class records and applets of components
 pub record IsOfComponents (c : LinkerComponents) : Type 0 where

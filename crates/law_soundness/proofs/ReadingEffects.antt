@@ -14,8 +14,8 @@ use Rattle.jc_packages.specs.Reading.{packages_of}
 use Rattle.law_soundness.specs.MemoryLaws.State.{IsSoundMemory}
 use Rattle.law_soundness.specs.MemoryLaws.Fit.{FitPlaces, FitsChange, FitsMove, FitsPlace, IsFit, OfPin, OfPlaces, OfRegistry, OfValue}
 use Rattle.law_soundness.proofs.Memories.{choose}
-use Rattle.law_theorems.specs.StableReading.{IsReadAs, KeepsReading}
-use Rattle.law_theorems.proofs.ReadingHeaps.{ArePlaced, IsPlaced, TellSame, object_tells, place_tells, places_tell, read_same, run_tells, transient_tells}
+use Rattle.law_soundness.specs.StableReading.{IsReadAs, KeepsReading}
+use Rattle.law_soundness.proofs.ReadingHeaps.{ArePlaced, IsPlaced, TellSame, object_tells, place_tells, places_tell, read_same, run_tells, transient_tells}
 
 -- ---- what fits is placed
 

@@ -14,7 +14,7 @@ use Rattle.jc_linker.specs.Linking.{with_package}
 use Rattle.jc_packages.specs.RecordContents.{parts_of}
 use Rattle.jc_packages.specs.PendingPackages.{PendingPackageValue, linked_components}
 use Rattle.jc_packages.specs.Reading.{packages_of}
-use Rattle.law_theorems.specs.StableReading.{IsReadAs}
+use Rattle.law_soundness.specs.StableReading.{IsReadAs}
 
 -- numbers that are bytes
 abbrev pub AreBytes : List ℕ → Type 0
