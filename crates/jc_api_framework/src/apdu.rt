@@ -46,8 +46,9 @@ const IN_BLOCK_SIZE: i16 = 1;
 
 const OUT_BLOCK_SIZE: i16 = 258;
 
-// `APDU.getBuffer`: returns the APDU buffer.
-fn apdu_get_buffer<S: WordStore>(memory: &Memory<S>) -> Result<NativeResult, StepExit>
+/// `APDU.getBuffer`: returns the APDU buffer.
+#[inline(never)]
+pub fn apdu_get_buffer<S: WordStore>(memory: &Memory<S>) -> Result<NativeResult, StepExit>
     requires up { memory.now.heap.down ≡ false }
     ensures { Executes (apdu_get_buffer memory.now) memory.now (after_call result memory.now) }
 {
@@ -82,11 +83,7 @@ pub fn call_apdu<S: WordStore>(
         ApdusMethod::ApduSetIncomingAndReceive => apdu_set_incoming_and_receive(memory),
         ApdusMethod::ApduSetOutgoing => apdu_set_outgoing(memory),
         ApdusMethod::ApduSetOutgoingNoChaining => apdu_set_outgoing_no_chaining(memory),
-        ApdusMethod::ApduSetOutgoingAndSend => {
-            let start = short_argument(args, 1)?;
-            let count = short_argument(args, 2)?;
-            apdu_set_outgoing_and_send(start, count, memory)
-        }
+        ApdusMethod::ApduSetOutgoingAndSend => apdu_set_outgoing_and_send(args, memory),
         ApdusMethod::ApduSetOutgoingLength => {
             let count = short_argument(args, 1)?;
             apdu_set_outgoing_length(count, memory)

@@ -83,10 +83,10 @@ fn array_fill<S: WordStore>(
     fill(memory, to, value, lasting)
 }
 
-// `Util.setShort`: sets two bytes as one change; returns the index after them.
+/// `Util.setShort`: sets two bytes as one change; returns the index after them.
 #[tactic(auto, unfolding(crate::specs::Util::util_set_short))]
-#[inline(always)]
-fn util_set_short<S: WordStore>(
+#[inline(never)]
+pub fn util_set_short<S: WordStore>(
     args: &[Cell],
     memory: &mut Memory<S>,
     linked: &Linked,
@@ -99,12 +99,14 @@ fn util_set_short<S: WordStore>(
     let word = short_argument(args, 2)?.cast_unsigned();
     let to = two_of(args, memory, linked)?;
     let bytes = [(word / 256) as u8, (word % 256) as u8];
-    store(memory, to, &bytes, false)
+    memory.set_bytes(to.array, to.start, &bytes)?;
+    Ok(short(end_of(&to)))
 }
 
-// `Util.getShort`: returns the short of two bytes.
+/// `Util.getShort`: returns the short of two bytes.
 #[tactic(auto, unfolding(crate::specs::Util::util_get_short))]
-fn util_get_short<S: WordStore>(
+#[inline(never)]
+pub fn util_get_short<S: WordStore>(
     args: &[Cell],
     memory: &Memory<S>,
     linked: &Linked,

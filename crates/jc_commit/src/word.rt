@@ -83,21 +83,21 @@ fn keep_word<S: WordStore>(
     log: Log,
     n: u16,
     born: u16,
-    address: u16,
-    value: u16,
+    change: (u16, u16),
 ) -> Result<(), StoreDown>
     requires stands { HasLog log (S.words store.old) }
     requires count { (n ≡ count_of (S.words store.old)) × (n < log.capacity) }
     requires births { IsFreeFrom (S.words store.old) born }
-    requires there { IsPlace (limit_of (S.words store.old)) address }
-    requires new { is_taken_back (touched_of (S.words store.old)) born address ≡ false }
+    requires there { IsPlace (limit_of (S.words store.old)) change.0 }
+    requires new { is_taken_back (touched_of (S.words store.old)) born change.0 ≡ false }
     ensures stays { KeepsTransaction (S.words store.old) (S.words store.new) }
-    ensures changed { OnOk result (ChangesInside born ((address, value) ∷ []) (S.words store.old)
+    ensures changed { OnOk result (ChangesInside born (change ∷ []) (S.words store.old)
         (S.words store.new) (n + 1)) }
     ensures wrote { Wrote S.down S.passed S.refusals 4 (is_ok result) store.old store.new }
 {
+    let (address, _) = change;
     let entry = (address, store.read(address));
-    store.write_four(log.address_word(n), entry, (COUNT, n + 1), (address, value))?;
+    store.write_four(log.address_word(n), entry, (COUNT, n + 1), change)?;
     Ok(())
 }
 
@@ -110,14 +110,13 @@ pub(crate) fn write_at<S: WordStore>(
     numbers: &mut EntryIndex,
     born: u16,
     place: Option<usize>,
-    address: u16,
-    value: u16,
+    change: (u16, u16),
 ) -> Result<(), StoreDown>
-    requires ready { MayBeWritten log (S.words store.old) n numbers.old.items born address place }
+    requires ready { MayBeWritten log (S.words store.old) n numbers.old.items born change.0 place }
     requires most { log.capacity ≤ most_capacity }
     requires room { n + (if is_some place then 1 else 0) ≤ log.capacity }
     ensures stays { KeepsTransaction (S.words store.old) (S.words store.new) }
-    ensures changed { OnOk result (ChangesInside born ((address, value) ∷ []) (S.words store.old)
+    ensures changed { OnOk result (ChangesInside born (change ∷ []) (S.words store.old)
         (S.words store.new) (n + (if is_some place then 1 else 0))) }
     ensures index { OnOk result (IsIndexOf log (S.words store.new)
         (n + (if is_some place then 1 else 0)) numbers.new.items) }
@@ -125,9 +124,9 @@ pub(crate) fn write_at<S: WordStore>(
         (writes_inside 1 (if is_some place then 1 else 0)) (is_ok result) store.old store.new }
 {
     let Some(place) = place else {
-        return write_through(store, born, &[(address, value)]);
+        return write_through(store, born, &[change]);
     };
     insert_at(numbers, place, n);
-    keep_word(store, log, n, born, address, value)?;
+    keep_word(store, log, n, born, change)?;
     Ok(())
 }

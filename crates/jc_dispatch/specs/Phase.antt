@@ -11,7 +11,6 @@ use Rattle.jc_memory.specs.declared.registers.Depth.TheVariants.{Outside}
 use Rattle.jc_memory.specs.declared.registers.Owner.{Owner}
 use Rattle.jc_memory.specs.declared.registers.Owner.TheVariants.{Runtime}
 use Rattle.jc_memory.specs.declared.registers.Registers.{Registers}
-use Rattle.jc_memory.specs.Owners.{owner_number}
 use Rattle.jc_memory.specs.State.{MemoryState, Effect, HeapMove, SetRegisters, apply_effect}
 use Rattle.jc_memory.specs.Programs.{Program, Finish, Perform, bind}
 use Rattle.jc_memory.specs.Cells.{header_at}
@@ -48,7 +47,7 @@ method_run_from budget p (Some s) owner m = then_with (SetRegisters (registers_f
     bind (run_methods budget p s v) v (λ end w. then_with (SetRegisters (registers_idle w.registers)) w (λ x. Finish end)))
 
 unfoldable pub method_run : Budget → Packages → ℕ → ℕ → List Cell → Owner → MemoryState → Program (ℕ × Outcome)
-method_run budget p number offset arguments owner m = method_run_from budget p (first_frames_of p number offset arguments (owner_number owner)) owner m
+method_run budget p number offset arguments owner m = method_run_from budget p (first_frames_of p number offset arguments) owner m
 
 -- the method that an applet's class has under a name of the platform's class Applet
 unfoldable pub method_named : Packages → MemoryState → ℕ → PlatformMethod → Option Method

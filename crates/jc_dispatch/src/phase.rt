@@ -57,14 +57,7 @@ pub(crate) fn run_for<S: WordStore>(
         arguments,
         owner,
     } = call;
-    let begun = begin(
-        linked,
-        package_number,
-        offset,
-        arguments,
-        owner.number(),
-        frames,
-    );
+    let begun = begin(linked, package_number, offset, arguments, frames);
     let Ok(()) = begun else {
         return Ok((budget.left, Outcome::Fault));
     };

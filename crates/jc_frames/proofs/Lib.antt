@@ -6,3 +6,4 @@ pub mod Buried
 pub mod Arguments
 pub mod Pairs
 pub mod CallSites
+pub mod Zeros

@@ -19,7 +19,7 @@ first_frame arguments locals limit place origin =
 
 -- frames in which nothing runs: no cell, and code of no package
 abbrev pub empty_frames : Frames
-empty_frames = record { current = first_frame [] 0 0 0 (record { package_number = 0; method = 0; owner = 0 }); callers = [] }
+empty_frames = record { current = first_frame [] 0 0 0 (record { package_number = 0; method = 0 }); callers = [] }
 
 -- the cells that a calling frame counts: its locals, and those that are on its stack
 abbrev pub calling_cells : List Caller → ℕ

@@ -1,13 +1,27 @@
 //! Calls and returns.
-ghost use Rattle.std.specs.Prelude.{IsNone, ◌≡◌};
+ghost use Rattle.std.specs.Prelude.{IsNone, ◌≡◌, ◌<◌, [], ◌∷◌, ◌++◌, length};
 ghost use Rattle.std.specs.Option.{option_map};
 ghost use Rattle.jc_frames.specs.Frames.{in_frame, unless_fault};
 ghost use Rattle.jc_frames.specs.Calls.{call_or_fault, counted_cells, frames_after_return, frames_with_result};
 
 use crate::cell::Cell;
-use crate::frames::{Frames, MOST_CELLS, MOST_FRAMES, Region, SavedFrame, push_zeros};
+use crate::fixed_stack::FixedStack;
+use crate::frames::{Frames, MOST_CALLERS, MOST_CELLS, Region, SavedFrame, push_zeros};
 use crate::method::{CallKind, Entry, ReturnPoint};
 use crate::outcome::CodeFault;
+
+// Puts a frame that waits for a call on the others, as it is.
+#[inline(always)]
+fn save(region: &Region, resume: ReturnPoint, saved: &mut FixedStack<SavedFrame, MOST_CALLERS>)
+    requires { length saved.old.items < 31 }
+    ensures { saved.new.items
+        ≡ saved.old.items ++ record { region = region.now; resume = resume } ∷ [] }
+{
+    saved.push(SavedFrame {
+        region: *region,
+        resume,
+    });
+}
 
 impl Frames {
     /// Begins the frame of a method that is called: the arguments on top of the caller's stack become
@@ -25,8 +39,7 @@ impl Frames {
             return Err(CodeFault);
         }
         let callers = self.saved.len();
-        let frames = callers + 2;
-        if frames > MOST_FRAMES {
+        if callers >= MOST_CALLERS {
             return Err(CodeFault);
         }
         let locals = usize::from(entry.locals);
@@ -37,11 +50,9 @@ impl Frames {
         if ceiling > MOST_CELLS {
             return Err(CodeFault);
         }
+        // Before the locals: what is saved is copied while nothing else lies in between.
+        save(&self.current, entry.resume, &mut self.saved);
         push_zeros(&mut self.cells, entry.locals);
-        self.saved.push(SavedFrame {
-            region: self.current,
-            resume: entry.resume,
-        });
         self.current = Region {
             base,
             bottom,
@@ -68,8 +79,11 @@ impl Frames {
             ≡ option_map (λ resume. (resume, self.new)) result }
         ensures same { IsNone result → self.new ≡ self.old }
     {
-        let caller = self.saved.pop()?;
+        if self.saved.len() == 0 {
+            return None;
+        }
         self.cells.truncate(self.current.base);
+        let caller = self.saved.pop()?;
         self.current = caller.region;
         Some(caller.resume)
     }

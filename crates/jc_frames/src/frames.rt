@@ -15,6 +15,9 @@ pub const MOST_CELLS: usize = 512;
 /// How many frames may stand one upon the other.
 pub const MOST_FRAMES: usize = 32;
 
+// How many of them may wait for calls.
+pub(crate) const MOST_CALLERS: usize = MOST_FRAMES - 1;
+
 /// Where the cells of a frame lie: its locals from `base` on, its stack from `bottom` on and below
 /// `ceiling`.
 #[derive(Clone, Copy, Default)]
@@ -38,7 +41,7 @@ pub(crate) struct SavedFrame {
 pub struct Frames {
     pub(crate) cells: FixedStack<Cell, MOST_CELLS>,
     pub(crate) current: Region,
-    pub(crate) saved: FixedStack<SavedFrame, 31>,
+    pub(crate) saved: FixedStack<SavedFrame, MOST_CALLERS>,
 }
 
 impl Model for Frames {
@@ -80,7 +83,7 @@ impl Frames {
         self.cells.clear();
         self.saved.clear();
         push_all(&mut self.cells, arguments);
-        push_zeros(&mut self.cells, u16::from(locals));
+        push_locals(&mut self.cells, u16::from(locals));
         let bottom = self.cells.len();
         self.current = Region {
             base: 0,
@@ -137,5 +140,18 @@ pub(crate) fn push_zeros(cells: &mut FixedStack<Cell, MOST_CELLS>, count: u16)
 {
     for _done in 0..usize::from(count) {
         cells.push(Cell::Short(0));
+    }
+}
+
+// The same, the first of them without a loop, since most methods have few locals.
+#[tactic(auto, using(crate::proofs::Zeros::one_more, crate::proofs::Zeros::no_more))]
+#[inline(always)]
+fn push_locals(cells: &mut FixedStack<Cell, MOST_CELLS>, count: u16)
+    requires { length cells.old.items + count ≤ 512 }
+    ensures { cells.new.items ≡ cells.old.items ++ replicate count (Short (pos 0)) }
+{
+    if count > 0 {
+        cells.push(Cell::Short(0));
+        push_zeros(cells, count - 1);
     }
 }

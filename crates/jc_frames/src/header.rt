@@ -51,11 +51,12 @@ pub fn header_at(text: &[u8], place: u16) -> Option<Header>
     ensures header { result ≡ header_in text.now place }
 {
     let at = usize::from(place);
-    let first = u1_at(text, at)?;
+    // No header has one byte alone.
+    let second = u1_at(text, at + 1)?;
+    let first = text[at];
     if first >= 128 {
         return long_header_at(text, place, first);
     }
-    let second = u1_at(text, at + 1)?;
     Some(Header {
         is_abstract: says_abstract(first),
         arguments: second / 16,

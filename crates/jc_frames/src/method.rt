@@ -1,16 +1,14 @@
 //! Which method a frame runs, and what it comes back to.
 
-use jc_transient::OwnerWord;
+use jc_memory::Owner;
 
-/// Which method a frame runs, and for whom.
+/// Which method a frame runs.
 #[derive(Clone, Copy, Default)]
 pub struct Origin {
     /// The number of the package that the method belongs to.
     pub package_number: u8,
     /// Where the method begins in its package's Method component.
     pub method: u16,
-    /// The owner that is active while it runs.
-    pub owner: OwnerWord,
 }
 
 /// Who called a method: an instruction, or the runtime environment as it asks a server.
@@ -24,16 +22,39 @@ pub enum CallKind {
 }
 
 /// What a return comes back to.
-#[derive(Clone, Copy, Default)]
+#[derive(Clone, Copy)]
 pub struct ReturnPoint {
     /// The owner that was active before the call.
-    pub active: OwnerWord,
+    pub active: Owner,
     /// The owner that was active before the last switch, as it was then.
-    pub previous: OwnerWord,
+    pub previous: Owner,
     /// Where the instruction stands that called.
     pub place: u16,
     /// Who called.
     pub call: CallKind,
+}
+
+impl Default for ReturnPoint {
+    ghost use Rattle.std.specs.Prelude.{◌≡◌};
+    ghost use Rattle.jc_memory.specs.declared.registers.Owner.TheVariants.{Runtime};
+    ghost use Rattle.jc_frames.specs.declared.method.CallKind.TheVariants.{Instruction};
+
+    ghost is_default = { λ p. p ≡ record {
+      active = Runtime;
+      previous = Runtime;
+      place = 0;
+      call = Instruction;
+    } };
+
+    /// As of a call by the runtime environment.
+    fn default() -> Self {
+        ReturnPoint {
+            active: Owner::Runtime,
+            previous: Owner::Runtime,
+            place: 0,
+            call: CallKind::Instruction,
+        }
+    }
 }
 
 /// A method as it is called.

@@ -3,7 +3,6 @@ use Rattle.std.specs.Prelude.{ℕ, ◌+◌, ◌==◌, ◌&&◌, not, nat_le, Boo
 use Rattle.std.specs.Option.{option_and_then}
 use Rattle.jc_memory.specs.declared.registers.Owner.{Owner}
 use Rattle.jc_memory.specs.declared.registers.Registers.{Registers}
-use Rattle.jc_memory.specs.Owners.{owner_number}
 use Rattle.jc_memory.specs.State.{MemoryState, SetRegisters}
 use Rattle.jc_memory.specs.Programs.{Program, Finish, Perform}
 use Rattle.jc_linker.specs.Values.{Packages}
@@ -32,14 +31,14 @@ takes n h = not h.is_abstract && h.arguments == n
 
 -- what a return comes back to
 abbrev pub resume_at : CallSite → Registers → ReturnPoint
-resume_at site r = record { active = owner_number r.active; previous = owner_number r.previous; place = site.place; call = site.kind }
+resume_at site r = record { active = r.active; previous = r.previous; place = site.place; call = site.kind }
 
--- the method, and the owner that is active while it runs
-abbrev pub origin_of : Callee → Registers → Origin
-origin_of c r = record { package_number = c.package_number; method = c.offset; owner = owner_number (registers_in_callee c.switches_to r).active }
+-- the method
+abbrev pub origin_of : Callee → Origin
+origin_of c = record { package_number = c.package_number; method = c.offset }
 
 abbrev pub entry_of : Header → Callee → CallSite → Registers → Entry
-entry_of h c site r = record { arguments = h.arguments; locals = h.locals; limit = h.limit; place = h.place; origin = origin_of c r; resume = resume_at site r }
+entry_of h c site r = record { arguments = h.arguments; locals = h.locals; limit = h.limit; place = h.place; origin = origin_of c; resume = resume_at site r }
 
 -- the registers are switched where the frame begins
 abbrev pub context_switch : Option Owner → Registers → Next Frames → Program (Next Frames)
@@ -70,7 +69,7 @@ first_frames_with h arguments origin =
 
 -- the frames of a method before its first instruction; none where its header is cut, where it is abstract or takes
 -- another number of cells, or where its cells are too many: a code fault
-unfoldable pub first_frames_of : Packages → ℕ → ℕ → List Cell → ℕ → Option Frames
-first_frames_of p number offset arguments owner =
-    option_and_then (λ h. first_frames_with h arguments (record { package_number = number; method = offset; owner = owner }))
+unfoldable pub first_frames_of : Packages → ℕ → ℕ → List Cell → Option Frames
+first_frames_of p number offset arguments =
+    option_and_then (λ h. first_frames_with h arguments (record { package_number = number; method = offset }))
     (header_in (method_component_of p number) offset)

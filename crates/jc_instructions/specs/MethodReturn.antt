@@ -1,7 +1,6 @@
 -- Returns: the caller goes on, for whom it ran before.
 use Rattle.std.specs.Prelude.{Option, Some, None}
 use Rattle.jc_memory.specs.declared.registers.Registers.{Registers}
-use Rattle.jc_memory.specs.Owners.{owner_of}
 use Rattle.jc_memory.specs.State.{MemoryState, SetRegisters}
 use Rattle.jc_memory.specs.Programs.{Program, Finish, Perform}
 use Rattle.jc_frames.specs.declared.instr.ReturnOp.{ReturnOp}
@@ -14,7 +13,7 @@ use Rattle.jc_world.specs.Instructions.{if_some}
 
 -- the registers as they were before a call
 abbrev pub registers_of_caller : ReturnPoint → Registers → Registers
-registers_of_caller resume r = record r { active = owner_of resume.active; previous = owner_of resume.previous }
+registers_of_caller resume r = record r { active = resume.active; previous = resume.previous }
 
 -- areturn, sreturn, return: the caller goes on with the result, for whom it ran before, or the run ends with it
 abbrev pub return_to_caller : Option Cell → Option (ReturnPoint × Frames) → MemoryState → Program (Next Frames)

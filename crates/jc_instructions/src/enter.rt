@@ -13,7 +13,6 @@ use jc_frames::{
 };
 use jc_linker::linked::Linked;
 use jc_memory::{Memory, Owner, Registers};
-use jc_transient::OwnerWord;
 use jc_words::WordStore;
 use jc_world::StepExit;
 
@@ -60,17 +59,14 @@ pub(crate) const fn takes(arguments: usize, header: Header) -> bool
     !header.is_abstract && header.arguments as usize == arguments
 }
 
-// The method, and the owner that is active while it runs.
+// The method.
 #[inline(always)]
-fn origin_of(callee: Callee, registers: Registers) -> Origin
-    ensures { result ≡ origin_of callee registers }
+const fn origin_of(callee: Callee) -> Origin
+    ensures { result ≡ origin_of callee }
 {
     Origin {
         package_number: callee.package_number,
         method: callee.offset,
-        owner: registers_in_callee(callee.switches_to, registers)
-            .active
-            .number(),
     }
 }
 
@@ -88,10 +84,10 @@ pub(crate) fn entry_of(
         locals: u16::from(header.locals),
         limit: header.limit,
         place: header.place,
-        origin: origin_of(callee, registers),
+        origin: origin_of(callee),
         resume: ReturnPoint {
-            active: registers.active.number(),
-            previous: registers.previous.number(),
+            active: registers.active,
+            previous: registers.previous,
             place: site.place,
             call: site.kind,
         },
@@ -135,11 +131,10 @@ pub fn begin(
     package_number: u8,
     offset: u16,
     arguments: &[Cell],
-    owner: OwnerWord,
     frames: &mut Frames,
 ) -> Result<(), CodeFault>
     ensures begun { option_map (λ _. frames.new) (result_ok result)
-        ≡ first_frames_of linked.now package_number offset arguments.now owner }
+        ≡ first_frames_of linked.now package_number offset arguments.now }
     ensures same { OnErr result (frames.new ≡ frames.old) }
 {
     let component = method_component_of(package_number, linked);
@@ -151,7 +146,6 @@ pub fn begin(
     let origin = Origin {
         package_number,
         method: offset,
-        owner,
     };
     frames.begin(arguments, header.locals, header.limit, header.place, origin);
     Ok(())

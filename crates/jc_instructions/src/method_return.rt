@@ -7,7 +7,7 @@ ghost use Rattle.jc_instructions.specs.MethodReturn.{method_return};
 use jc_frames::instr::ReturnOp;
 use jc_frames::return_ops::pop_result;
 use jc_frames::{Frames, Outcome};
-use jc_memory::{Memory, Owner};
+use jc_memory::Memory;
 use jc_words::WordStore;
 use jc_world::StepExit;
 
@@ -28,7 +28,7 @@ pub fn return_to_caller<S: WordStore>(
         return Err(StepExit::End(Outcome::of_value(value)));
     };
     let call = resume.call;
-    memory.set_owners(Owner::of(resume.active), Owner::of(resume.previous));
+    memory.set_owners(resume.active, resume.previous);
     frames.receive(call, value)?;
     Ok(())
 }

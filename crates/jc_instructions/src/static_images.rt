@@ -49,7 +49,7 @@ pub(crate) fn image_word<S: WordStore>(
 {
     let owner = record_at(memory, package_number)?;
     let heap = memory.heap();
-    let begin = heap.statics(owner)?;
+    let begin = memory.statics(package_number, owner)?;
     let offset = u32::from(begin) + u32::from(number);
     if offset >= u32::from(heap.record_length(owner)) {
         return None;

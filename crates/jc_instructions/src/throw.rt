@@ -15,7 +15,7 @@ use jc_firewall::access::Access;
 use jc_frames::{CallKind, Cell, CodeFault, Exception, Frames, Outcome};
 use jc_heap::Facts;
 use jc_linker::linked::Linked;
-use jc_memory::{FaultKind, Memory, Owner};
+use jc_memory::{FaultKind, Memory};
 use jc_platform::names::PlatformClass;
 use jc_platform::table::Table;
 use jc_transient::{CellValue, ClassWord, Ref};
@@ -60,7 +60,7 @@ fn unwind<S: WordStore>(
             };
             let call = resume.call;
             let place = resume.place;
-            memory.set_owners(Owner::of(resume.active), Owner::of(resume.previous));
+            memory.set_owners(resume.active, resume.previous);
             match call {
                 CallKind::Instruction => unwind(class, thrown, place, frames, memory, linked),
                 CallKind::ShareableRequest => {

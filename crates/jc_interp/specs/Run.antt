@@ -43,9 +43,9 @@ IsPartOfRun (Err down) attack limit rest later lent p first start s m = Executes
 abbrev pub run_methods : Budget → Packages → Frames → MemoryState → Program (ℕ × Outcome)
 run_methods budget p s m = run_of budget.attack budget.left [] p s m
 
--- code that belongs to no package, and runs for the runtime environment
+-- code that belongs to no package
 abbrev pub no_package : Origin
-no_package = record { package_number = 0; method = 0; owner = 0 }
+no_package = record { package_number = 0; method = 0 }
 
 -- the frame of such code before its first byte: no cell on its stack, and this many locals, which are short 0
 abbrev pub bare_frames : ℕ → ℕ → Frames

@@ -11,6 +11,9 @@ ghost use Rattle.jc_platform.specs.Signatures.{argument_cells};
 ghost use Rattle.jc_interp.specs.Calling.{after_native_return, invoke_instruction, invoke_selected, native_invoke, static_invoke};
 
 use crate::natives::call_native;
+use crate::own_calls::{
+    select_own_code, select_own_implementation, select_own_special, short_header_at,
+};
 use jc_frames::instr::InvokeOp;
 use jc_frames::{CallKind, Frames, Outcome, header_at};
 use jc_instructions::enter::{CallSite, Callee, enter};
@@ -291,7 +294,50 @@ fn invoke_of_platform<S: WordStore>(
     Ok(())
 }
 
-// A static call of a method in bytecode by the instruction at a place.
+// A static call of a method in bytecode by the instruction at a place, out of line: any header.
+#[tactic(auto, unfolding(jc_instructions::specs::Invoke::invokestatic, jc_instructions::specs::Invoke::arguments_of, jc_instructions::specs::Enter::method_entry))]
+#[inline(never)]
+fn invoke_static_any<S: WordStore>(
+    package_number: u8,
+    offset: u16,
+    place: u16,
+    frames: &mut Frames,
+    memory: &mut Memory<S>,
+    linked: &Linked,
+) -> Result<(), StepExit>
+    ensures { Executes (static_invoke (Code package_number offset) place linked.now frames.old
+        memory.old) memory.old (after_instruction result frames.new memory.new) }
+{
+    let Some(header) = header_at(method_component_of(package_number, linked), offset) else {
+        return Err(StepExit::End(Outcome::Fault));
+    };
+    let callee = Callee {
+        package_number,
+        offset,
+        arguments: header.arguments,
+        switches_to: None,
+    };
+    enter(Some(header), callee, called_at(place), frames, memory)
+}
+
+// The same in line: its answer has memory of its own.
+#[inline(always)]
+fn call_static_any<S: WordStore>(
+    package_number: u8,
+    offset: u16,
+    place: u16,
+    frames: &mut Frames,
+    memory: &mut Memory<S>,
+    linked: &Linked,
+) -> Result<(), StepExit>
+    ensures { Executes (static_invoke (Code package_number offset) place linked.now frames.old
+        memory.old) memory.old (after_instruction result frames.new memory.new) }
+{
+    invoke_static_any(package_number, offset, place, frames, memory, linked)?;
+    Ok(())
+}
+
+// A static call of a method in bytecode by the instruction at a place. Where the header has two bytes, it is taken apart here.
 #[tactic(auto, unfolding(jc_instructions::specs::Invoke::invokestatic, jc_instructions::specs::Invoke::arguments_of, jc_instructions::specs::Enter::method_entry))]
 #[inline(always)]
 fn invoke_static_code<S: WordStore>(
@@ -305,8 +351,9 @@ fn invoke_static_code<S: WordStore>(
     ensures { Executes (static_invoke (Code package_number offset) place linked.now frames.old
         memory.old) memory.old (after_instruction result frames.new memory.new) }
 {
-    let Some(header) = header_at(method_component_of(package_number, linked), offset) else {
-        return Err(StepExit::End(Outcome::Fault));
+    let component = method_component_of(package_number, linked);
+    let Some(header) = short_header_at(component, offset) else {
+        return call_static_any(package_number, offset, place, frames, memory, linked);
     };
     let callee = Callee {
         package_number,
@@ -397,7 +444,7 @@ fn invoke_static<S: WordStore>(
 // at once, no more is asked.
 #[tactic(auto, unfolding(crate::specs::Calling::invoke_instruction, jc_instructions::specs::Invoke::method_selection, jc_instructions::specs::Invoke::header_of, jc_instructions::specs::Enter::method_entry))]
 #[inline(never)]
-fn invoke_virtual_code<S: WordStore>(
+fn invoke_virtual_other<S: WordStore>(
     entry: &Target,
     index: u16,
     place: u16,
@@ -442,6 +489,46 @@ fn invoke_virtual_code<S: WordStore>(
     invoke_unknown(index, place, frames, memory, linked)
 }
 
+// The same, where most calls are on own instances of the very class that the entry names: of these nothing else is asked.
+#[tactic(auto, unfolding(crate::specs::Calling::invoke_instruction, jc_instructions::specs::Invoke::method_selection, jc_instructions::specs::Invoke::header_of, jc_instructions::specs::Enter::method_entry))]
+#[inline(never)]
+fn invoke_virtual_code<S: WordStore>(
+    entry: &Target,
+    index: u16,
+    place: u16,
+    frames: &mut Frames,
+    memory: &mut Memory<S>,
+    linked: &Linked,
+) -> Result<(), StepExit>
+    requires up { memory.old.heap.down ≡ false }
+    requires entry { Some entry.now ≡ target_at linked.now frames.old.current.origin.package_number
+        index }
+    ensures { Executes (invoke_instruction (Virtual index) place linked.now frames.old memory.old)
+        memory.old (after_instruction result frames.new memory.new) }
+{
+    if let Target::VirtualMethod {
+        class,
+        token: _,
+        method: Method::Code {
+            package_number,
+            offset,
+        },
+    } = entry
+    {
+        let chosen = select_own_code(*class, *package_number, *offset, frames, memory, linked);
+        if let Some(call) = chosen {
+            return enter(
+                Some(call.header),
+                call.callee,
+                called_at(place),
+                frames,
+                memory,
+            );
+        }
+    }
+    invoke_virtual_other(entry, index, place, frames, memory, linked)
+}
+
 // A virtual call by the instruction at a place.
 #[tactic(auto, unfolding(crate::specs::Calling::invoke_instruction, jc_instructions::specs::Invoke::method_selection))]
 #[inline(always)]
@@ -468,8 +555,47 @@ fn invoke_virtual<S: WordStore>(
     }
 }
 
-// A call of a constructor, of a private method or of a method of a superclass by the instruction at a place. What is handed over has memory of its
-// own.
+// A call of a constructor, of a private method or of a method of a superclass by the instruction at a place, out of line. On an own instance of the
+// very class that the entry names nothing else is asked.
+#[tactic(auto, unfolding(crate::specs::Calling::invoke_instruction, jc_instructions::specs::Invoke::method_selection, jc_instructions::specs::Invoke::header_of, jc_instructions::specs::Enter::method_entry))]
+#[inline(never)]
+fn invoke_special_code<S: WordStore>(
+    index: u16,
+    place: u16,
+    frames: &mut Frames,
+    memory: &mut Memory<S>,
+    linked: &Linked,
+) -> Result<(), StepExit>
+    requires up { memory.old.heap.down ≡ false }
+    ensures { Executes (invoke_instruction (Special index) place linked.now frames.old memory.old)
+        memory.old (after_instruction result frames.new memory.new) }
+{
+    let entry = linked.target_at(frames.origin().package_number, index);
+    if let Some(
+        Target::StaticMethod {
+            class,
+            method: Method::Code {
+                package_number,
+                offset,
+            },
+        },
+    ) = entry
+    {
+        let chosen = select_own_special(*class, *package_number, *offset, frames, memory, linked);
+        if let Some(call) = chosen {
+            return enter(
+                Some(call.header),
+                call.callee,
+                called_at(place),
+                frames,
+                memory,
+            );
+        }
+    }
+    invoke_other(InvokeOp::Special(index), place, frames, memory, linked)
+}
+
+// The same in line.
 #[inline(always)]
 fn invoke_special<S: WordStore>(
     index: u16,
@@ -482,10 +608,54 @@ fn invoke_special<S: WordStore>(
     ensures { Executes (invoke_instruction (Special index) place linked.now frames.old memory.old)
         memory.old (after_instruction result frames.new memory.new) }
 {
-    invoke_other(InvokeOp::Special(index), place, frames, memory, linked)
+    invoke_special_code(index, place, frames, memory, linked)
 }
 
-// A call of an interface's method, likewise.
+// A call of an interface's method, out of line. On an own instance nothing else is asked.
+#[tactic(auto, unfolding(crate::specs::Calling::invoke_instruction, jc_instructions::specs::Invoke::method_selection, jc_instructions::specs::Invoke::header_of, jc_instructions::specs::Enter::method_entry))]
+#[inline(never)]
+fn invoke_interface_code<S: WordStore>(
+    arguments: u8,
+    index: u16,
+    token: u8,
+    place: u16,
+    frames: &mut Frames,
+    memory: &mut Memory<S>,
+    linked: &Linked,
+) -> Result<(), StepExit>
+    requires up { memory.old.heap.down ≡ false }
+    ensures { Executes (invoke_instruction (Interface arguments index token) place linked.now
+        frames.old memory.old) memory.old (after_instruction result frames.new memory.new) }
+{
+    let interface = linked.target_at(frames.origin().package_number, index);
+    if let Some(Target::Class(interface)) = interface {
+        let chosen = select_own_implementation(
+            *interface, arguments, token, frames, memory, linked,
+        );
+        if let Some(call) = chosen {
+            return enter(
+                Some(call.header),
+                call.callee,
+                called_at(place),
+                frames,
+                memory,
+            );
+        }
+    }
+    invoke_other(
+        InvokeOp::Interface {
+            arguments,
+            index,
+            token,
+        },
+        place,
+        frames,
+        memory,
+        linked,
+    )
+}
+
+// A call of an interface's method.
 #[inline(always)]
 fn invoke_interface<S: WordStore>(
     arguments: u8,
@@ -500,17 +670,7 @@ fn invoke_interface<S: WordStore>(
     ensures { Executes (invoke_instruction (Interface arguments index token) place linked.now
         frames.old memory.old) memory.old (after_instruction result frames.new memory.new) }
 {
-    invoke_other(
-        InvokeOp::Interface {
-            arguments,
-            index,
-            token,
-        },
-        place,
-        frames,
-        memory,
-        linked,
-    )
+    invoke_interface_code(arguments, index, token, place, frames, memory, linked)
 }
 
 /// A call by the instruction at a place. Static calls of methods in bytecode stay in line; what comes after the choice of any other method needs

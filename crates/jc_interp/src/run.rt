@@ -13,7 +13,6 @@ use crate::step::{code_of, finish};
 use jc_frames::{CodeFault, Frames, Origin, Outcome};
 use jc_linker::linked::Linked;
 use jc_memory::Memory;
-use jc_transient::RUNTIME_ENVIRONMENT;
 use jc_words::{StoreDown, WordStore};
 use jc_world::StepExit;
 
@@ -257,7 +256,6 @@ pub fn run_ad_hoc<S: WordStore>(
     let no_package = Origin {
         package_number: 0,
         method: 0,
-        owner: RUNTIME_ENVIRONMENT,
     };
     let mut frames = Frames::empty();
     frames.begin(&[], locals, max_stack, 0, no_package);

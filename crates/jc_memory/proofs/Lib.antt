@@ -1,5 +1,6 @@
 pub mod ProgramLemmas
 pub mod Usable
+pub mod KeptImages
 pub mod Marking
 pub mod Burying
 pub mod Running

@@ -24,7 +24,10 @@ use Rattle.jc_heap.proofs.Runs.{shape-run}
 use Rattle.jc_heap.proofs.AreaEnds.{shape-end}
 use Rattle.jc_heap.proofs.NewPackages.{shape-package}
 use Rattle.jc_heap.proofs.Changing.{shape-same}
-use Rattle.jc_memory.specs.Marks.{AreObjects, is_marked}
+use Rattle.jc_memory.specs.declared.images.KnownImage.{KnownImage}
+use Rattle.jc_memory.specs.Images.{AreImages}
+use Rattle.jc_memory.specs.Marks.{AreKnown, is_marked}
+use Rattle.jc_memory.proofs.KeptImages.{LeavesImages, images_left}
 use Rattle.jc_memory.proofs.Usable.{made_by, changed_by, stepped_by}
 
 -- every move but an abort
@@ -57,56 +60,64 @@ stays old new r shape end there = elim (cases_lt r old.top) [
   | inr above ↦ absurd (true≢false (sym there ∙ ap is_object (heap_item_at-absent old r (end r above))))
 ]
 
--- a whole heap with an object at each of these addresses, whose words say these sizes
-abbrev pub Known : List Bool → RamSizes → HeapView → Type 0
-Known marks sizes v = AreConsistent v × ((r : ℕ) → is_marked marks r ≡ true → IsObject v.now r) × (sizes ≡ area_sizes v.now)
+-- a whole heap with an object at each of these addresses, whose static images begin there, and whose words say these sizes
+abbrev pub Known : List Bool → List KnownImage → RamSizes → HeapView → Type 0
+Known marks images sizes v = AreConsistent v × (((r : ℕ) → is_marked marks r ≡ true → IsObject v.now r) × AreImages images v.now v.durable)
+    × (sizes ≡ area_sizes v.now)
 
-abbrev pub KnownWhileUp : List Bool → RamSizes → HeapView → Type 0
-KnownWhileUp marks sizes v = (v.down ≡ false → AreConsistent v) × AreObjects marks v × (v.down ≡ false → sizes ≡ area_sizes v.now)
+abbrev pub KnownWhileUp : List Bool → List KnownImage → RamSizes → HeapView → Type 0
+KnownWhileUp marks images sizes v = (v.down ≡ false → AreConsistent v) × AreKnown marks images v × (v.down ≡ false → sizes ≡ area_sizes v.now)
 
 -- heaps of one shape have areas of one size
 pub same_sizes : (old new : HeapState) → SameShape old new → area_sizes old ≡ area_sizes new
 same_sizes old new shape = ap (λ (l : List ℕ). ram_sizes (slice_index l 1) (slice_index l 2)) (sym shape.lasting)
 
-known : (marks : List Bool) (sizes : RamSizes) (m : Move) (v : HeapView) → MoveIsLegal v m → IsForth m → Known marks sizes v → Known marks sizes (apply_move m v)
-known marks sizes m v suits f k = (
+known : (marks : List Bool) (images : List KnownImage) (sizes : RamSizes) (m : Move) (v : HeapView) → MoveIsLegal v m → IsForth m → LeavesImages images v m → Known marks images sizes v → Known marks images sizes (apply_move m v)
+known marks images sizes m v suits f left k = (
   keeps m v suits k.0,
-  λ r marked. stays v.now (apply_move m v).now r (forth m v f) k.0.now.end (k.1 r marked),
+  (λ r marked. stays v.now (apply_move m v).now r (forth m v f) k.0.now.end (k.1.0 r marked), images_left m v images k.0 left k.1.1),
   k.2 ∙ same_sizes v.now (apply_move m v).now (forth m v f),
 )
 
-pub known_making : {A : Type 0} (marks : List Bool) (sizes : RamSizes) (reason : Option HeapRefusal) (old new : HeapView) (result : Result A HeapRefusal) (m : Move) (a : A) →
-    PerformsMovesUnless reason old (after_making result new) (m ∷ []) a → (reason ≡ None → MoveIsLegal old m) → IsForth m → Known marks sizes old
-    → KnownWhileUp marks sizes new
-known_making marks sizes reason old new result m a made suits f k =
-    let all = made_by (Known marks sizes) reason old new result m a made (λ none. known marks sizes m old (suits none) f k) k in (λ up. (all up).0, λ up. (all up).1, λ up. (all up).2)
+pub known_making : {A : Type 0} (marks : List Bool) (images : List KnownImage) (sizes : RamSizes) (reason : Option HeapRefusal) (old new : HeapView) (result : Result A HeapRefusal) (m : Move) (a : A) →
+    PerformsMovesUnless reason old (after_making result new) (m ∷ []) a → (reason ≡ None → MoveIsLegal old m) → IsForth m → LeavesImages images old m → Known marks images sizes old
+    → KnownWhileUp marks images sizes new
+known_making marks images sizes reason old new result m a made suits f left k =
+    let all = made_by (Known marks images sizes) reason old new result m a made (λ none. known marks images sizes m old (suits none) f left k) k in (λ up. (all up).0, λ up. (all up).1, λ up. (all up).2)
 
-pub known_change : {A : Type 0} (marks : List Bool) (sizes : RamSizes) (reason : Option HeapRefusal) (old new : HeapView) (result : Result A ChangeRefusal) (m : Move) (a : A) →
-    PerformsMovesUnless reason old (after_change result new) (m ∷ []) a → (reason ≡ None → MoveIsLegal old m) → IsForth m → Known marks sizes old
-    → KnownWhileUp marks sizes new
-known_change marks sizes reason old new result m a made suits f k =
-    let all = changed_by (Known marks sizes) reason old new result m a made (λ none. known marks sizes m old (suits none) f k) k in (λ up. (all up).0, λ up. (all up).1, λ up. (all up).2)
+pub known_change : {A : Type 0} (marks : List Bool) (images : List KnownImage) (sizes : RamSizes) (reason : Option HeapRefusal) (old new : HeapView) (result : Result A ChangeRefusal) (m : Move) (a : A) →
+    PerformsMovesUnless reason old (after_change result new) (m ∷ []) a → (reason ≡ None → MoveIsLegal old m) → IsForth m → LeavesImages images old m → Known marks images sizes old
+    → KnownWhileUp marks images sizes new
+known_change marks images sizes reason old new result m a made suits f left k =
+    let all = changed_by (Known marks images sizes) reason old new result m a made (λ none. known marks images sizes m old (suits none) f left k) k in (λ up. (all up).0, λ up. (all up).1, λ up. (all up).2)
 
-pub known_step : {A E : Type 0} (marks : List Bool) (sizes : RamSizes) (old new : HeapView) (result : Result A E) (m : Move) (a : A) →
-    PerformsMoves old (after_step result new) (m ∷ []) a → MoveIsLegal old m → IsForth m → Known marks sizes old → KnownWhileUp marks sizes new
-known_step marks sizes old new result m a made suits f k =
-    let all = stepped_by (Known marks sizes) old new result m a made (known marks sizes m old suits f k) k in (λ up. (all up).0, λ up. (all up).1, λ up. (all up).2)
+pub known_step : {A E : Type 0} (marks : List Bool) (images : List KnownImage) (sizes : RamSizes) (old new : HeapView) (result : Result A E) (m : Move) (a : A) →
+    PerformsMoves old (after_step result new) (m ∷ []) a → MoveIsLegal old m → IsForth m → LeavesImages images old m → Known marks images sizes old → KnownWhileUp marks images sizes new
+known_step marks images sizes old new result m a made suits f left k =
+    let all = stepped_by (Known marks images sizes) old new result m a made (known marks images sizes m old suits f left k) k in (λ up. (all up).0, λ up. (all up).1, λ up. (all up).2)
 
 -- one mark more
-pub one_more : (marks : List Bool) (v : HeapView) (r : ℕ) → AreObjects marks v → (v.down ≡ false → IsObject v.now r) → AreObjects (set marks r true) v
-one_more marks v r objects there up q marked = elim (cases_eq q r) [
-  | inl same ↦ subst (IsObject v.now) (sym same) (there up)
-  | inr other ↦ objects up q (sym (get_or-set_other marks r q true false other) ∙ marked)
-]
+pub one_more : (marks : List Bool) (images : List KnownImage) (v : HeapView) (r : ℕ) → AreKnown marks images v → (v.down ≡ false → IsObject v.now r)
+    → AreKnown (set marks r true) images v
+one_more marks images v r known there up = (
+  λ q marked. elim (cases_eq q r) [
+    | inl same ↦ subst (IsObject v.now) (sym same) (there up)
+    | inr other ↦ (known up).0 q (sym (get_or-set_other marks r q true false other) ∙ marked)
+  ],
+  (known up).1,
+)
 
--- after an abort the marks below the new top are true
-pub still_marked : (marks new : List Bool) (v w : HeapView) (before : ℕ) → AreConsistent v → before ≡ v.now.top
-    → ((r : ℕ) → is_marked marks r ≡ true → IsObject v.now r) → w ≡ heap_after_abort v →
-    ((r : ℕ) → is_marked new r ≡ true → (is_marked marks r ≡ true) × ((r < w.now.top) ⊎ (before ≤ r))) → AreObjects new w
-still_marked marks new v w before whole top objects is left up r marked =
-    let there = objects r (left r marked).0 in
-    subst (λ u. IsObject u.now r) (sym is) (elim ((left r marked).1) [
-      | inl below ↦ sym (object-header_only (heap_item_at v.durable r)) ∙ ap is_object (sym (whole.shape.items r (subst (λ u. r < u.now.top) is below)))
-          ∙ object-header_only (heap_item_at v.now r) ∙ there
-      | inr above ↦ absurd (true≢false (sym there ∙ ap is_object (heap_item_at-absent v.now r (whole.now.end r (subst (λ n. n ≤ r) top above)))))
-    ])
+-- after an abort the marks below the new top are true, and what is known of images
+pub still_known : (marks new : List Bool) (images : List KnownImage) (v w : HeapView) (before : ℕ) → AreConsistent v → before ≡ v.now.top
+    → ((r : ℕ) → is_marked marks r ≡ true → IsObject v.now r) × AreImages images v.now v.durable → w ≡ heap_after_abort v →
+    ((r : ℕ) → is_marked new r ≡ true → (is_marked marks r ≡ true) × ((r < w.now.top) ⊎ (before ≤ r))) → AreKnown new images w
+still_known marks new images v w before whole top known is left up = (
+  λ r marked. let there = known.0 r (left r marked).0 in
+      subst (λ u. IsObject u.now r) (sym is) (elim ((left r marked).1) [
+        | inl below ↦ sym (object-header_only (heap_item_at v.durable r))
+            ∙ ap is_object (sym (whole.shape.items r (subst (λ u. r < u.now.top) is below)))
+            ∙ object-header_only (heap_item_at v.now r) ∙ there
+        | inr above ↦ absurd (true≢false (sym there ∙ ap is_object (heap_item_at-absent v.now r (whole.now.end r (subst (λ n. n ≤ r) top above)))))
+      ]),
+  subst (λ u. AreImages images u.now u.durable) (sym is) (images_left Abort v images whole tt known.1),
+)

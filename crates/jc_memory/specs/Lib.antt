@@ -8,5 +8,6 @@ pub mod Cells
 pub mod Commands
 pub mod Making
 pub mod Changes
+pub mod Images
 pub mod Marks
 pub mod CommitCapacity

@@ -1,13 +1,15 @@
 //! Packages and applets: where they stand, and new ones.
-ghost use Rattle.std.specs.Prelude.{◌≡◌, ◌<◌, false, true, length, slice_index};
+ghost use Rattle.std.specs.Prelude.{ℕ, ◌≡◌, ◌<◌, ◌≤◌, false, true, length, slice_index, IfSome};
 ghost use Rattle.jc_words.specs.Layout.{most_packages, most_applets};
 ghost use Rattle.jc_heap.specs.Heap.{is_allocated};
 ghost use Rattle.jc_heap.specs.Component.{record_of};
+ghost use Rattle.jc_heap.specs.Statics.{IsStatic, statics_of};
 ghost use Rattle.jc_heap.specs.Package.{AreArrays, AreComponents, image_size, array_inits, parts};
 ghost use Rattle.jc_memory.specs.Programs.{Executes};
 ghost use Rattle.jc_heap.specs.Completions.{after_change, after_making};
 ghost use Rattle.jc_memory.specs.Changes.{package_addition, applet_addition};
 
+use crate::images::Images;
 use crate::memory::Memory;
 use jc_heap::{AppletEntry, ChangeRefusal, HeapRefusal, RecordComponent, StaticArray};
 use jc_transient::Ref;
@@ -23,6 +25,35 @@ impl<S: WordStore> Memory<S> {
         ensures record { 0 < length (record_of self.now.heap.now result) }
     {
         self.heap.package_address(k)
+    }
+
+    /// Where the static image begins in the record of the package with this number, from 1: the offset of its first word; none, where
+    /// the record has no component or ends before. Of most packages it is known without a walk over the record.
+    #[tactic(auto, using(jc_heap::proofs::StaticImages::statics_within, jc_heap::proofs::StaticImages::all_static))]
+    #[inline(always)]
+    pub fn statics(&self, number: u8, owner: Ref) -> Option<u16>
+        requires up { self.now.heap.down ≡ false }
+        requires there { 0 < length (record_of self.now.heap.now owner) }
+        ensures exact { result ≡ statics_of (record_of self.now.heap.now owner) }
+        ensures within { IfSome result (λ o. o ≤ length (record_of self.now.heap.now owner)) }
+        ensures image { IfSome result (λ o. (j : ℕ) → o ≤ j
+            → j < length (record_of self.now.heap.now owner)
+            → IsStatic (record_of self.now.heap.now owner) j) }
+    {
+        match self.images.begin(number, owner) {
+            Some(begin) => Some(begin),
+            None => self.walk_to_statics(owner),
+        }
+    }
+
+    // The same by a walk, out of line.
+    #[inline(never)]
+    fn walk_to_statics(&self, owner: Ref) -> Option<u16>
+        requires up { self.now.heap.down ≡ false }
+        requires there { 0 < length (record_of self.now.heap.now owner) }
+        ensures { result ≡ statics_of (record_of self.now.heap.now owner) }
+    {
+        self.heap.statics(owner)
     }
 
     /// Adds a package: its record, its static image and its initialised arrays. The answer is where its
@@ -41,9 +72,11 @@ impl<S: WordStore> Memory<S> {
         ensures { Executes (package_addition self.old (parts components.now)
             (array_inits arrays.now) image.now) self.old (after_making result self.new) }
     {
+        self.images = Images::none();
         let package = self.heap.add_package(components, arrays, image)?;
         self.marks.clear();
         self.marks.scan(&self.heap);
+        self.images = Images::of(&self.heap);
         Ok(package)
     }
 

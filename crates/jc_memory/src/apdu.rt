@@ -71,6 +71,7 @@ impl<S: WordStore> Memory<S> {
     }
 
     /// Sends bytes of an object from an index on, after those that were sent already.
+    #[inline(always)]
     pub fn send_elements(&mut self, object: Ref, i: u16, count: u16)
         requires up { self.old.heap.down ≡ false }
         requires there { IsObject self.old.heap.now object }

@@ -111,6 +111,7 @@ impl<S: WordStore> Memory<S> {
     }
 
     /// The same for bytes.
+    #[inline(always)]
     pub fn set_bytes(&mut self, object: Ref, i: u16, bytes: &[u8]) -> Result<(), ChangeRefusal>
         requires up { self.old.heap.down ≡ false }
         requires there { IsObject self.old.heap.now object }

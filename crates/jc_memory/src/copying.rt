@@ -15,6 +15,7 @@ impl<S: CopyStore> Memory<S> {
     {
         let ram = self.ram.copy(alloc)?;
         let marks = self.marks.copy(alloc)?;
+        let images = self.images.copy()?;
         let fixed = copy_of(&self.fixed)?;
         let command = self.command.copy(alloc)?;
         let sent = self.sent.copy(alloc)?;
@@ -24,6 +25,7 @@ impl<S: CopyStore> Memory<S> {
             ram,
             fixed,
             marks,
+            images,
             registers: self.registers,
             command,
             sent,
@@ -50,7 +52,7 @@ impl<S: WordStore> Memory<FuseStore<S>> {
 }
 
 // The same items.
-fn copy_of<T: Copy + Default, const MOST: usize>(
+pub(crate) fn copy_of<T: Copy + Default, const MOST: usize>(
     items: &ArrayVec<T, MOST>,
 ) -> Result<ArrayVec<T, MOST>, AllocError>
     ensures { IfOk result (λ copy. copy.items ≡ items.now.items) }

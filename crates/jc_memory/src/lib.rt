@@ -11,6 +11,7 @@ mod commit_capacity;
 mod copying;
 mod filling;
 mod flags;
+mod images;
 mod kept;
 mod making;
 mod marks;

@@ -7,6 +7,7 @@ ghost use Rattle.jc_memory.specs.Owners.{at_reset};
 ghost use Rattle.jc_memory.specs.Cells.{IsHeaderOf, header_at};
 ghost use Rattle.jc_memory.specs.Marks.{AreObjects};
 
+use crate::images::Images;
 use crate::kept::Kept;
 use crate::marks::Marks;
 use crate::notes::Notes;
@@ -37,6 +38,7 @@ pub struct Memory<S: WordStore> {
     pub(crate) ram: Ram,
     pub(crate) fixed: ArrayVec<u16, MOST_FIXED>,
     pub(crate) marks: Marks,
+    pub(crate) images: Images,
     pub(crate) registers: Registers,
     pub(crate) command: Kept<MOST_COMMAND>,
     pub(crate) sent: Kept<MOST_SENT>,
@@ -46,7 +48,7 @@ pub struct Memory<S: WordStore> {
 
 impl<S: WordStore> Model for Memory<S> {
     ghost use Rattle.jc_memory.specs.State.{MemoryState, IsConsistentMemory};
-    ghost use Rattle.jc_memory.specs.Marks.{AreObjects};
+    ghost use Rattle.jc_memory.specs.Marks.{AreKnown};
 
     ghost Value = { MemoryState };
 
@@ -59,7 +61,7 @@ impl<S: WordStore> Model for Memory<S> {
       sent = m.sent;
     } };
 
-    ghost invariant = { λ m. IsConsistentMemory m.heap m.ram × AreObjects m.marks m.heap };
+    ghost invariant = { λ m. IsConsistentMemory m.heap m.ram × AreKnown m.marks m.images m.heap };
 }
 
 /// Room for the bytes of a command, and for those that are sent in answer to it.
@@ -110,12 +112,14 @@ impl<S: WordStore> Memory<S> {
     {
         // Nothing stands at or above the top, and the durable heap is this one.
         let _ = (heap.top(), heap.is_open());
+        let images = Images::of(&heap);
         let Rooms { command, sent } = rooms;
         Memory {
             heap,
             ram,
             fixed,
             marks,
+            images,
             registers: Registers::at_reset(),
             command,
             sent,
@@ -136,6 +140,7 @@ impl<S: WordStore> Memory<S> {
             ram,
             fixed,
             marks: _,
+            images: _,
             registers: _,
             command,
             sent,

@@ -60,6 +60,7 @@ impl<S: WordStore> Memory<S> {
             ram,
             fixed,
             marks,
+            images: _,
             registers,
             command,
             sent,

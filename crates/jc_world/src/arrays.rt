@@ -104,7 +104,7 @@ pub fn elements<S: WordStore>(
 }
 
 /// Sets elements of an array of bytes, as one change: refused, where the transaction has no room for it.
-#[inline(always)]
+#[inline(never)]
 pub fn put<S: WordStore>(
     memory: &mut Memory<S>,
     to: Stretch,

@@ -11,7 +11,6 @@ use Rattle.jc_memory.specs.declared.registers.Owner.TheVariants.{Applet}
 use Rattle.jc_memory.specs.State.{MemoryState, Effect, HeapMove, SetTransient, SetFlag, ClearTransient, SetRegisters, BeginCommand, SendBytes}
 use Rattle.jc_memory.specs.State.{apply_effect}
 use Rattle.jc_memory.specs.Cells.{header_at}
-use Rattle.jc_memory.specs.Owners.{owner_number}
 use Rattle.jc_memory.specs.Programs.{Program, Finish, Perform, Choose, Either, bind}
 use Rattle.jc_memory.specs.Reading.{AllDue, AllResults}
 use Rattle.jc_memory.proofs.ProgramLemmas.{each_always}
@@ -122,7 +121,7 @@ pub record EntersPass (P : Effect → MemoryState → Type 0) (C : HeapState →
     (S : Owner → MemoryState → Type 0) (s : Frames) (m : MemoryState) : Type 0 where
   pub faults : N (Ends Fault) m
   pub null : N (in_frame s (push (Reference 0) s.current)) m
-  pub enters : (e : Entry) → e.resume.active ≡ owner_number m.registers.active → N (call_or_fault e s) m
+  pub enters : (e : Entry) → e.resume.active ≡ m.registers.active → N (call_or_fault e s) m
   pub switches : (owner : Owner) (t : Frames) → S owner m → N (GoesOn t) m → P (SetRegisters (registers_in_callee (Some owner) m.registers)) m
       × N (GoesOn t) (apply_effect (SetRegisters (registers_in_callee (Some owner) m.registers)) m)
   pub arguments : (asked : ServerCall) (next : Next Frames) → N next m → C m.heap.now (Reference asked.server) → C m.heap.now (Reference asked.client)

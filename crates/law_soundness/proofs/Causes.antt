@@ -15,7 +15,7 @@ use Rattle.jc_memory.specs.declared.registers.PackageNumber.{PackageNumber}
 use Rattle.jc_memory.specs.Cells.{cell_effect_in, cells_effect_in}
 use Rattle.jc_memory.specs.Changes.{nonatomic_store}
 use Rattle.jc_memory.specs.Making.{creation_move}
-use Rattle.jc_memory.specs.Owners.{owner_number, owner_of}
+use Rattle.jc_memory.specs.Owners.{owner_of}
 use Rattle.jc_memory.specs.Programs.{Program, Finish, Perform, Choose, Either}
 use Rattle.jc_memory.specs.Reading.{AllDue, AllResults, HasTrace}
 use Rattle.jc_memory.specs.State.{MemoryState, Effect, HeapMove, SetTransient, SetFlag, ClearTransient, SetRegisters, BeginCommand, SendBytes, apply_effect, apply_effects}
@@ -266,7 +266,7 @@ module _ (lent : List ℕ) (p : Packages) (s : Frames) (m : MemoryState) where
   next_if true x y n first second = first
   next_if false x y n first second = second
 
-  entered : (e : Entry) (t : Frames) (n : MemoryState) → t.callers ≡ s.callers → e.resume.active ≡ owner_number m.registers.active → Follows (call_or_fault e t) n
+  entered : (e : Entry) (t : Frames) (n : MemoryState) → t.callers ≡ s.callers → e.resume.active ≡ m.registers.active → Follows (call_or_fault e t) n
   entered e t n same active = next_if (nat_le e.arguments (length t.current.stack)) _ _ n (next_if
       (nat_le (length (frames_in_callee e t).callers) 31 && nat_le (counted_cells (frames_in_callee e t)) 512) _ _ n
       (inr (e.resume, ap (λ (l : List Caller). e.resume ∷ map (λ (c : Caller). c.resume) l) same, active)) tt) tt
@@ -289,7 +289,7 @@ module _ (lent : List ℕ) (p : Packages) (s : Frames) (m : MemoryState) where
   enters t n same active = record {
     faults = tt;
     null = framed t n (left_like s t left_itself same) (push (Reference 0) t.current);
-    enters = λ e resumes. entered e t n same (resumes ∙ ap owner_number active);
+    enters = λ e resumes. entered e t n same (resumes ∙ active);
     switches = λ owner u wanted next. ((inr (cause_of owner n wanted), refl), next);
     arguments = λ asked next so server client. stored 2 (cells.Short asked.parameter) _ n
         (stored 1 (Reference asked.client) _ n (stored 0 (Reference asked.server) next n so));

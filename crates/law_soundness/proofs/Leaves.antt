@@ -6,6 +6,7 @@ use Rattle.jc_transient.specs.declared.cell.CellValue.TheVariants.{Short}
 use Rattle.jc_heap.specs.declared.object.Facts.{Facts}
 use Rattle.jc_heap.specs.Heap.{facts}
 use Rattle.jc_memory.specs.Cells.{header_at}
+use Rattle.jc_memory.specs.Owners.{owner_number}
 use Rattle.jc_memory.specs.State.{MemoryState, Effect, SetTransient, SetRegisters, apply_effect}
 use Rattle.jc_linker.specs.Values.{Packages}
 use Rattle.jc_frames.specs.declared.method.ReturnPoint.{ReturnPoint}
@@ -24,13 +25,12 @@ use Rattle.law_soundness.specs.MemoryLaws.State.{IsSoundMemory, is_owner_up_to, 
 use Rattle.law_soundness.specs.MachineLaws.Steps.{LeavesFit}
 use Rattle.law_soundness.proofs.Effects.{keeps_sound}
 use Rattle.law_soundness.proofs.LocalEffects.{calm_stays}
-use Rattle.law_soundness.proofs.Owners.{known_again, turn_known}
+use Rattle.law_soundness.proofs.Owners.{turn_known}
 use Rattle.law_soundness.proofs.RunObjects.{one_fits}
 
 pub back_fits : (p : Packages) (methods : KnowsMethods p) (resume : ReturnPoint) (m : MemoryState) → IsSoundMemory p m
-    → is_owner_up_to (most_owner m) m.heap.now resume.active ≡ true → FitsTurn m (registers_of_caller resume m.registers)
-back_fits p methods resume m sound known = turn_known p m methods sound (registers_of_caller resume m.registers) refl refl
-    (known_again p m methods sound resume.active known)
+    → is_owner_up_to (most_owner m) m.heap.now (owner_number resume.active) ≡ true → FitsTurn m (registers_of_caller resume m.registers)
+back_fits p methods resume m sound known = turn_known p m methods sound (registers_of_caller resume m.registers) refl refl known
 
 -- the cell is there, and its object is no array
 pub reason_fits : (m : MemoryState) (r : ℕ) (f : Facts) (v : ℤ) → header_at m r ≡ Some f → has_reason_cell f ≡ true → FitsFill m r 0 (Short v ∷ [])

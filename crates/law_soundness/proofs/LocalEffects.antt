@@ -8,6 +8,7 @@ use Rattle.jc_heap.specs.Moves.{Write, SetPlaces, WriteNonAtomic, SetCells, AddO
 use Rattle.jc_heap.specs.HeapLaws.{IsConsistentHeap}
 use Rattle.jc_heap.specs.Place.{place_at, set_place, set_places}
 use Rattle.jc_heap.proofs.Keeping.{reference-add}
+use Rattle.jc_memory.specs.Owners.{owner_number}
 use Rattle.jc_memory.specs.State.{MemoryState, Effect, HeapMove, SetTransient, SetFlag, ClearTransient, SetRegisters, BeginCommand, SendBytes}
 use Rattle.jc_memory.specs.State.{apply_effect}
 use Rattle.jc_frames.specs.Frames.{Caller}
@@ -104,8 +105,8 @@ same_known most h g n same known = subst (λ l. is_owner_up_to most (record h { 
 still_known : (m v : MemoryState) (callers : List Caller) → Stays m v → KnowOwners callers m → KnowOwners callers v
 still_known m v [] s known = tt
 still_known m v (c ∷ callers) s known = (
-  same_known (most_owner v) m.heap.now v.heap.now c.resume.active s.now.packages
-      (subst (λ n. is_owner_up_to n m.heap.now c.resume.active ≡ true) (sym (same_most m v s)) known.0),
+  same_known (most_owner v) m.heap.now v.heap.now (owner_number c.resume.active) s.now.packages
+      (subst (λ n. is_owner_up_to n m.heap.now (owner_number c.resume.active) ≡ true) (sym (same_most m v s)) known.0),
   known.1,
   still_known m v callers s known.2,
 )

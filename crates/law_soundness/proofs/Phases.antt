@@ -99,11 +99,11 @@ begun_bare : (g : HeapState) (h : Header) (arguments : List Cell) (origin : Orig
 begun_bare g h arguments origin s all is = subst (Begins g) (cond_some _ (first_frames h arguments origin) s is).1
     (refl, first_living g arguments h.locals h.limit h.place origin all)
 
-begins_bare : (g : HeapState) (p : Packages) (number offset : ℕ) (arguments : List Cell) (owner : ℕ) (s : Frames) → AreLivingCells g arguments
-    → first_frames_of p number offset arguments owner ≡ Some s → Begins g s
+begins_bare : (g : HeapState) (p : Packages) (number offset : ℕ) (arguments : List Cell) (s : Frames) → AreLivingCells g arguments
+    → first_frames_of p number offset arguments ≡ Some s → Begins g s
 unfolding first_frames_of
-begins_bare g p number offset arguments owner s all is = option_and_then_some (λ h. first_frames_with h arguments
-    (record { package_number = number; method = offset; owner = owner })) _ s is (λ h there made. begun_bare g h arguments _ s all made)
+begins_bare g p number offset arguments s all is = option_and_then_some (λ h. first_frames_with h arguments
+    (record { package_number = number; method = offset })) _ s is (λ h there made. begun_bare g h arguments _ s all made)
 
 module _ (runs : RunsAreSound) (p : Packages) (known : AreKnown p) where
   turn_on : (m : MemoryState) (owner : Owner) → MayRun p m owner → FitsTurn m (registers_for owner m.registers)
@@ -168,8 +168,8 @@ module _ (runs : RunsAreSound) (p : Packages) (known : AreKnown p) where
       → MayRun p m owner
       → Good p (method_run budget p number offset arguments owner m) m (λ end n. HasRun p m n)
   unfolding method_run
-  run_for_good budget number offset arguments owner m all may = from_good budget (first_frames_of p number offset arguments (owner_number owner)) owner m
-      (λ s is. begins_bare m.heap.now p number offset arguments (owner_number owner) s all is) may
+  run_for_good budget number offset arguments owner m all may = from_good budget (first_frames_of p number offset arguments) owner m
+      (λ s is. begins_bare m.heap.now p number offset arguments s all is) may
 
   method_good : (budget : Budget) (method : Option Method) (arguments : List Cell) (owner : Owner) (m : MemoryState) → AreLivingCells m.heap.now arguments
       → MayRun p m owner

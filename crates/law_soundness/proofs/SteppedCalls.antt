@@ -56,13 +56,13 @@ module _ (p : Packages) (m : MemoryState) where
   next_if false x y first second = second
 
   -- the caller waits, for whom it runs; the arguments are the first locals, and leave its stack
-  called : (e : Entry) (s : Frames) → IsSoundMachine p s m → IsOthers m → e.resume.active ≡ owner_number m.registers.active → IsSoundMachine p (after_call e s) m
+  called : (e : Entry) (s : Frames) → IsSoundMachine p s m → IsOthers m → e.resume.active ≡ m.registers.active → IsSoundMachine p (after_call e s) m
   called e s machine others same = record {
     sound = machine.sound;
     steady = machine.steady;
     callers = (
-      subst (λ n. is_owner_up_to (most_owner m) m.heap.now n ≡ true) (sym same) machine.sound.active,
-      (λ zero. others (sym same ∙ zero)),
+      subst (λ o. is_owner_up_to (most_owner m) m.heap.now (owner_number o) ≡ true) (sym same) machine.sound.active,
+      (λ zero. others (ap owner_number (sym same) ∙ zero)),
       machine.callers,
     );
     environment = machine.environment;
@@ -79,7 +79,7 @@ module _ (p : Packages) (m : MemoryState) where
     };
   }
 
-  called_or_ends : (e : Entry) (s : Frames) → IsSoundMachine p s m → IsOthers m → e.resume.active ≡ owner_number m.registers.active
+  called_or_ends : (e : Entry) (s : Frames) → IsSoundMachine p s m → IsOthers m → e.resume.active ≡ m.registers.active
       → IsSoundNext p (call_or_fault e s) m
   called_or_ends e s machine others same = next_if (nat_le e.arguments (length s.current.stack)) _ _
       (next_if (nat_le (length (after_call e s).callers) 31 && nat_le (counted_cells (after_call e s)) 512) _ _ (called e s machine others same) tt) tt

@@ -27,7 +27,6 @@ use Rattle.law_code.specs.Methods.{KnowsMethods}
 use Rattle.law_soundness.specs.MachineLaws.Soundness.{IsSoundNext}
 use Rattle.law_soundness.proofs.Leaves.{back_fits, reason_fits}
 use Rattle.law_soundness.proofs.LivingReferences.{none_living}
-use Rattle.law_soundness.proofs.Owners.{owner_zero}
 use Rattle.law_soundness.proofs.Machines.{Given, IsSoundUnder, framed, machine_of, stacked, under_after, under_of}
 use Rattle.law_soundness.proofs.Plain.{keeps_pushed}
 
@@ -65,7 +64,7 @@ module _ (g : Given) (p : Packages) (methods : KnowsMethods p) where
         fits,
         machine_of p (record { current = c.frame; callers = callers }) (apply_effect (SetRegisters (registers_of_caller c.resume m.registers)) m)
             (under_after g p (SetRegisters (registers_of_caller c.resume m.registers)) callers m fits refl under)
-            (λ home zero. machine.callers.1 (owner_zero c.resume.active zero)) machine.living.callers.0,
+            (λ home zero. machine.callers.1 zero) machine.living.callers.0,
       )
 
   pub leaves_sound : LeavesPass (IsFit p) (IsSoundMachine p) IsLivingCell (IsSoundNext p)

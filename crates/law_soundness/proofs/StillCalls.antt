@@ -3,6 +3,7 @@ use Rattle.std.proofs.Common.{◌≡◌, true, List, [], ◌∷◌, Result, Ok, 
 use Rattle.jc_frames.specs.declared.outcome.FrameExit.{FrameExit}
 use Rattle.jc_frames.specs.declared.outcome.FrameExit.TheVariants.{Throw, End}
 use Rattle.jc_frames.specs.Frames.{Caller}
+use Rattle.jc_memory.specs.Owners.{owner_number}
 use Rattle.jc_memory.specs.State.{MemoryState, apply_effect}
 use Rattle.jc_memory.specs.Programs.{Finish, Perform, Choose, Either}
 use Rattle.jc_memory.specs.Reading.{AllDue, AllResults}
@@ -26,8 +27,8 @@ pub same_owners : (m n : MemoryState) → n.heap.now.packages ≡ m.heap.now.pac
     → KnowOwners callers n
 same_owners m n packages most [] known = tt
 same_owners m n packages most (c ∷ callers) known = (
-  same_known (most_owner n) m.heap.now n.heap.now c.resume.active packages (subst (λ k. is_owner_up_to k m.heap.now c.resume.active ≡ true)
-      (sym most) known.0),
+  same_known (most_owner n) m.heap.now n.heap.now (owner_number c.resume.active) packages
+      (subst (λ k. is_owner_up_to k m.heap.now (owner_number c.resume.active) ≡ true) (sym most) known.0),
   known.1,
   same_owners m n packages most callers known.2,
 )

@@ -11,7 +11,8 @@ use Rattle.law_soundness.specs.MemoryLaws.State.{IsSoundMemory, IsSteady, is_own
 -- for whom each caller ran is there, and was not the runtime environment
 abbrev pub KnowOwners : List Caller → MemoryState → Type 0
 KnowOwners [] m = Unit {0}
-KnowOwners (c ∷ callers) m = (is_owner_up_to (most_owner m) m.heap.now c.resume.active ≡ true) × (c.resume.active ≡ 0 → ⊥) × KnowOwners callers m
+KnowOwners (c ∷ callers) m = (is_owner_up_to (most_owner m) m.heap.now (owner_number c.resume.active) ≡ true)
+    × (owner_number c.resume.active ≡ 0 → ⊥) × KnowOwners callers m
 
 -- the memory is sound, between two instructions; for whom each caller ran is there; the runtime environment's own objects are of the
 -- platform's classes; methods of packages don't run for it; and each reference in frames is null or names an object

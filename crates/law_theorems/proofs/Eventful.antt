@@ -224,7 +224,7 @@ begun_at card es = memory_at card (part es 0 8)
 abbrev walk_of : CardState → List Effect → Option (Way Frames)
 walk_of card es = walked 12 card.packages
     (or_else (bare_frames 0 0)
-    (first_frames_of card.packages 1 33 (Reference (instance_of (begun_at card es) 1) ∷ Reference (apdu_object (begun_at card es)) ∷ []) 1))
+    (first_frames_of card.packages 1 33 (Reference (instance_of (begun_at card es) 1) ∷ Reference (apdu_object (begun_at card es)) ∷ [])))
     (begun_at card es)
 
 abbrev tests_walked : CardState → List Effect → Option (Way Frames) → Bool

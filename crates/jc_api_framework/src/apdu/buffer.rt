@@ -12,6 +12,7 @@ use jc_words::WordStore;
 
 /// The APDU buffer. A heap that does not begin with one is a code fault.
 #[tactic(auto, unfolding(crate::specs::Apdu::Buffer::buffer_of))]
+#[inline(always)]
 pub fn buffer<S: WordStore>(memory: &Memory<S>) -> Result<Ref, CodeFault>
     requires up { memory.now.heap.down ≡ false }
     ensures buffer { result_or_none result ≡ buffer_of memory.now }

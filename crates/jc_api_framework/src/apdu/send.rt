@@ -2,7 +2,8 @@
 ghost use Rattle.std.specs.Prelude.{◌≡◌, ◌≤◌, ◌+◌, false, IfOk, length};
 ghost use Rattle.jc_memory.specs.declared.registers.ApduPhase.TheVariants.{Sending};
 ghost use Rattle.jc_memory.specs.Programs.{Executes};
-ghost use Rattle.jc_world.specs.NativeCalls.{after_call};
+ghost use Rattle.jc_world.specs.Objects.{short_argument};
+ghost use Rattle.jc_world.specs.NativeCalls.{after_call, if_some};
 ghost use Rattle.jc_api_framework.specs.Apdu.{apdu_set_outgoing_and_send, apdu_send_bytes, send_in_phase, expected_of, is_too_much, length_of, most_unchained, set_outgoing_in_phase};
 ghost use Rattle.jc_api_framework.specs.Apdu.{apdu_set_outgoing_length, apdu_set_outgoing, apdu_set_outgoing_no_chaining, phase_of, piece_of, buffer_piece};
 
@@ -12,6 +13,7 @@ use jc_frames::reasons::{BAD_LENGTH, BUFFER_BOUNDS, ILLEGAL_USE};
 use jc_frames::{Cell, FrameExit};
 use jc_memory::{ApduPhase, MOST_SENT, MOST_SHORT, Memory, most_answer};
 use jc_words::WordStore;
+use jc_world::arguments::short_argument;
 use jc_world::{NativeResult, StepExit};
 
 // How many bytes are sent in one block of T=1 at most, without the status word.
@@ -147,6 +149,7 @@ fn buffer_piece(size: u16, start: i16, count: i16) -> Result<Piece, FrameExit>
 
 // What may be sent of a buffer of this size, where this many bytes are left.
 #[tactic(auto, unfolding(crate::specs::Apdu::piece_of))]
+#[inline(always)]
 fn piece_of<S: WordStore>(
     size: u16,
     start: i16,
@@ -166,6 +169,7 @@ fn piece_of<S: WordStore>(
 }
 
 // Sends bytes of the buffer, while this many are left.
+#[inline(always)]
 fn send_in_phase<S: WordStore>(
     start: i16,
     count: i16,
@@ -202,11 +206,10 @@ pub(crate) fn apdu_send_bytes<S: WordStore>(
     }
 }
 
-/// `APDU.setOutgoingAndSend`: `setOutgoing`, `setOutgoingLength` and `sendBytes` in a row. What passed before
-/// one of them throws stays.
+// `setOutgoing`, `setOutgoingLength` and `sendBytes` in a row.
 #[tactic(auto, unfolding(crate::specs::Apdu::apdu_set_outgoing_and_send))]
 #[inline(always)]
-pub(crate) fn apdu_set_outgoing_and_send<S: WordStore>(
+fn set_outgoing_and_send<S: WordStore>(
     start: i16,
     count: i16,
     memory: &mut Memory<S>,
@@ -218,4 +221,21 @@ pub(crate) fn apdu_set_outgoing_and_send<S: WordStore>(
     apdu_set_outgoing(memory)?;
     apdu_set_outgoing_length(count, memory)?;
     apdu_send_bytes(start, count, memory)
+}
+
+/// `APDU.setOutgoingAndSend`: `setOutgoing`, `setOutgoingLength` and `sendBytes` in a row. What passed before
+/// one of them throws stays.
+#[inline(never)]
+pub fn apdu_set_outgoing_and_send<S: WordStore>(
+    args: &[Cell],
+    memory: &mut Memory<S>,
+) -> Result<NativeResult, StepExit>
+    requires up { memory.old.heap.down ≡ false }
+    ensures { Executes (if_some (short_argument args.now 1) (λ start. if_some
+        (short_argument args.now 2) (λ count. apdu_set_outgoing_and_send start count memory.old)))
+        memory.old (after_call result memory.new) }
+{
+    let start = short_argument(args, 1)?;
+    let count = short_argument(args, 2)?;
+    set_outgoing_and_send(start, count, memory)
 }

@@ -23,7 +23,8 @@ fn set_level<S: WordStore>(depth: Depth, memory: &mut Memory<S>)
 }
 
 /// `JCSystem.beginTransaction`: begins a transaction; throws IN_PROGRESS where one is open.
-pub(crate) fn jc_system_begin_transaction<S: WordStore>(
+#[inline(never)]
+pub fn jc_system_begin_transaction<S: WordStore>(
     memory: &mut Memory<S>,
 ) -> Result<NativeResult, StepExit>
     requires up { memory.old.heap.down ≡ false }
@@ -43,7 +44,8 @@ pub(crate) fn jc_system_begin_transaction<S: WordStore>(
 
 /// `JCSystem.commitTransaction`: commits; throws NOT_IN_PROGRESS where no transaction is open. That of an
 /// installation stays open.
-pub(crate) fn jc_system_commit_transaction<S: WordStore>(
+#[inline(never)]
+pub fn jc_system_commit_transaction<S: WordStore>(
     memory: &mut Memory<S>,
 ) -> Result<NativeResult, StepExit>
     requires up { memory.old.heap.down ≡ false }

@@ -5,7 +5,7 @@ use Rattle.jc_heap.specs.Moves.{AddPackage}
 use Rattle.jc_memory.specs.declared.registers.Owner.{Owner}
 use Rattle.jc_memory.specs.declared.registers.Owner.TheVariants.{Applet}
 use Rattle.jc_memory.specs.declared.registers.Registers.{Registers}
-use Rattle.jc_memory.specs.Owners.{owner_number, owner_of}
+use Rattle.jc_memory.specs.Owners.{owner_of}
 use Rattle.jc_memory.specs.Reading.{AllDue, AllResults, HasTrace}
 use Rattle.jc_memory.specs.State.{MemoryState, Effect, HeapMove, ClearTransient, SetRegisters, BeginCommand, apply_effects}
 use Rattle.jc_platform.specs.declared.names.PlatformMethod.{PlatformMethod}
@@ -83,7 +83,7 @@ HasLeft s t = (inner : List ReturnPoint) × (return_points s ≡ inner ++ return
 
 -- there is one more, and code will run again for whom it ran as it called
 abbrev pub HasEntered : Frames → MemoryState → Frames → Type 0
-HasEntered s m t = (point : ReturnPoint) × (return_points t ≡ point ∷ return_points s) × (point.active ≡ owner_number m.registers.active)
+HasEntered s m t = (point : ReturnPoint) × (return_points t ≡ point ∷ return_points s) × (point.active ≡ m.registers.active)
 
 -- what follows a step has such callers
 abbrev pub FollowsWithin : Frames → MemoryState → Next Frames → Type 0

@@ -12,8 +12,8 @@ write_through-requires-clause-kept g c =
     let l = c.args.log in
     let w = g.S.WordStore.words c.args.store.now in
     let numbers = c.args.numbers.now.items in
-    let a = c.args.address in
-    goes_back_again l w w numbers c.args.n c.args.born a c.args.value c.requires.ready.stands.stands c.requires.ready.count
+    let a = c.args.change.0 in
+    goes_back_again l w w numbers c.args.n c.args.born a c.args.change.1 c.requires.ready.stands.stands c.requires.ready.count
     (taken_where l w numbers c.args.n c.args.born a c.args.place c.in_default.not-Some c.requires.ready.place)
 
 pub returns-in_default-clause-changed : goal.returns-in_default-clause-changed
@@ -24,8 +24,8 @@ returns-in_default-clause-changed g c =
     let numbers = c.args.numbers.now.items in
     let n = c.args.n in
     let born = c.args.born in
-    let a = c.args.address in
-    let x = c.args.value in
+    let a = c.args.change.0 in
+    let x = c.args.change.1 in
     let taken : is_taken_back (named_by l w n) born a ≡ true = taken_where l w numbers n born a c.args.place c.in_default.not-Some c.requires.ready.place in
     let none : n ≡ n + (if is_some c.args.place then 1 else 0) = omega (arith, none_more c.args.place c.in_default.not-Some) in
     on_ok c.write_through.result (λ plain. subst (ChangesInside born ((a, x) ∷ []) w v) none
@@ -39,8 +39,8 @@ returns-in_default-clause-index g c =
     let numbers = c.args.numbers.now.items in
     let n = c.args.n in
     let born = c.args.born in
-    let a = c.args.address in
-    let x = c.args.value in
+    let a = c.args.change.0 in
+    let x = c.args.change.1 in
     let taken : is_taken_back (named_by l w n) born a ≡ true = taken_where l w numbers n born a c.args.place c.in_default.not-Some c.requires.ready.place in
     let none : n ≡ n + (if is_some c.args.place then 1 else 0) = omega (arith, none_more c.args.place c.in_default.not-Some) in
     on_ok c.write_through.result (λ plain. subst (λ (m : ℕ). IsIndexOf l v m numbers) none
@@ -51,8 +51,8 @@ pub keep_word-requires-clause-new : goal.keep_word-requires-clause-new
 keep_word-requires-clause-new g c =
     let l = c.args.log in
     let w = g.S.WordStore.words c.args.store.now in
-    let place = subst (IsPlaceFor l w c.args.n c.args.numbers.now.items c.args.born c.args.address) c.in-Some.is c.requires.ready.place in
-    subst (λ (t : List ℕ). is_taken_back t c.args.born c.args.address ≡ false)
+    let place = subst (IsPlaceFor l w c.args.n c.args.numbers.now.items c.args.born c.args.change.0) c.in-Some.is c.requires.ready.place in
+    subst (λ (t : List ℕ). is_taken_back t c.args.born c.args.change.0 ≡ false)
     (ap (named_by l w) c.requires.ready.count ∙ names_touched l w c.requires.ready.stands.stands) place.0
 
 pub returns-clause-index : goal.returns-clause-index
@@ -62,8 +62,8 @@ returns-clause-index g c =
     let u = g.S.WordStore.words c.keep_word.new.store in
     let numbers = c.args.numbers.now.items in
     let n = c.args.n in
-    let place = subst (IsPlaceFor l w n numbers c.args.born c.args.address) c.in-Some.is c.requires.ready.place in
+    let place = subst (IsPlaceFor l w n numbers c.args.born c.args.change.0) c.in-Some.is c.requires.ready.place in
     let one : n + 1 ≡ n + (if is_some c.args.place then 1 else 0) = ap (λ (p : Option ℕ). n + (if is_some p then 1 else 0)) (sym c.in-Some.is) in
     subst (λ (m : ℕ). IsIndexOf l u m c.insert_at.new.numbers.items) one
-    (subst (IsIndexOf l u (n + 1)) (sym c.insert_at.ensures) (index_with l w u numbers n c.args.born c.args.address c.args.value c.in-Some.place
+    (subst (IsIndexOf l u (n + 1)) (sym c.insert_at.ensures) (index_with l w u numbers n c.args.born c.args.change.0 c.args.change.1 c.in-Some.place
     c.requires.ready.stands.stands c.keep_word.ensures.stays.log c.requires.ready.count c.requires.ready.index place c.in_ok-keep_word.ensures.changed))

@@ -1,15 +1,15 @@
 use Rattle.std.proofs.Common.{ap, ◌∙◌, sym, subst}
 use Rattle.jc_heap.specs.Object.{is_object}
-use Rattle.jc_memory.specs.Marks.{AreObjects}
+use Rattle.jc_memory.specs.Marks.{AreKnown}
 use Rattle.jc_memory.proofs.Usable.{object_suits}
 use Rattle.jc_memory.proofs.Marking.{known_making, one_more}
 use Rattle.jc_memory.proofs.memory.Memory.make_persistent.Goals as goal
 
 pub invariant_of-self : goal.invariant_of-self
 invariant_of-self g c =
-    let k = known_making c.self.inside.marks c.self.inside.ram.sizes _ c.self.inside.heap c.new_persistent.new.self c.new_persistent.result _ _ c.new_persistent.ensures.moves
+    let k = known_making c.self.inside.marks c.self.inside.images c.self.inside.ram.sizes _ c.self.inside.heap c.new_persistent.new.self c.new_persistent.result _ _ c.new_persistent.ensures.moves
     (λ none. object_suits c.self.inside.heap c.args.object.kind c.args.object.class c.number-owner.result c.args.object.length)
-    tt (
+    tt tt (
       c.self.invariant.0.heap (ap (λ s. s.heap.down) c.self.view_is ∙ c.requires.up),
       c.self.invariant.1 (ap (λ s. s.heap.down) c.self.view_is ∙ c.requires.up),
       c.self.invariant.0.sizes (ap (λ s. s.heap.down) c.self.view_is ∙ c.requires.up),
@@ -18,14 +18,14 @@ invariant_of-self g c =
 
 pub invariant_of-self-2 : goal.invariant_of-self-2
 invariant_of-self-2 g c =
-    let k = known_making c.self.inside.marks c.self.inside.ram.sizes _ c.self.inside.heap c.new_persistent.new.self c.new_persistent.result _ _ c.new_persistent.ensures.moves
+    let k = known_making c.self.inside.marks c.self.inside.images c.self.inside.ram.sizes _ c.self.inside.heap c.new_persistent.new.self c.new_persistent.result _ _ c.new_persistent.ensures.moves
     (λ none. object_suits c.self.inside.heap c.args.object.kind c.args.object.class c.number-owner.result c.args.object.length)
-    tt (
+    tt tt (
       c.self.invariant.0.heap (ap (λ s. s.heap.down) c.self.view_is ∙ c.requires.up),
       c.self.invariant.1 (ap (λ s. s.heap.down) c.self.view_is ∙ c.requires.up),
       c.self.invariant.0.sizes (ap (λ s. s.heap.down) c.self.view_is ∙ c.requires.up),
     ) in (
       record { heap = k.0; ram = c.set_flag.ensures.sizes; sizes = λ up. c.set_flag.ensures.same ∙ k.2 up },
-      subst (λ ms. AreObjects ms c.new_persistent.new.self) (sym c.mark.ensures)
-          (one_more c.self.inside.marks c.new_persistent.new.self c.in_ok-r.r k.1 (λ up. ap is_object c.in_ok-r.ensures.made)),
+      subst (λ ms. AreKnown ms c.self.inside.images c.new_persistent.new.self) (sym c.mark.ensures)
+          (one_more c.self.inside.marks c.self.inside.images c.new_persistent.new.self c.in_ok-r.r k.1 (λ up. ap is_object c.in_ok-r.ensures.made)),
     )

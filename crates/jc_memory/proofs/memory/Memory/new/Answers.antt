@@ -10,5 +10,5 @@ invariant_of-result g c = (
     ram = c.requires.sizes;
     sizes = λ up. c.requires.fits;
   },
-  c.requires.marked,
+  λ up. (c.requires.marked up, c.of-images.ensures),
 )

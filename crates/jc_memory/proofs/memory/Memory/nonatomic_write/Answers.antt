@@ -8,7 +8,7 @@ pub invariant_of-self : goal.invariant_of-self
 invariant_of-self g c =
     let up = ap (λ s. s.heap.down) c.self.view_is ∙ c.requires.up in
     let whole = c.self.invariant.0.heap up in
-    let k = known_step c.self.inside.marks c.self.inside.ram.sizes c.self.inside.heap c.write_both.new.self c.write_both.result _ _ c.write_both.ensures
+    let k = known_step c.self.inside.marks c.self.inside.images c.self.inside.ram.sizes c.self.inside.heap c.write_both.new.self c.write_both.result _ _ c.write_both.ensures
     (counter_suits c.self.inside.heap c.args.object c.args.i c.args.v whole (ap (λ s. (facts s.heap.now c.args.object).kind) c.self.view_is ∙ c.requires.kind))
-    tt (whole, c.self.invariant.1 up, c.self.invariant.0.sizes up) in
+    tt tt (whole, c.self.invariant.1 up, c.self.invariant.0.sizes up) in
     (record { heap = k.0; ram = c.self.invariant.0.ram; sizes = k.2 }, k.1)

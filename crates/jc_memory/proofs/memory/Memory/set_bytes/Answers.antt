@@ -6,9 +6,9 @@ use Rattle.jc_memory.proofs.memory.Memory.set_bytes.Goals as goal
 
 pub invariant_of-self : goal.invariant_of-self
 invariant_of-self g c =
-    let k = known_change c.self.inside.marks c.self.inside.ram.sizes _ c.self.inside.heap c.set_run-done.new.self c.set_run-done.result _ _ c.set_run-done.ensures
+    let k = known_change c.self.inside.marks c.self.inside.images c.self.inside.ram.sizes _ c.self.inside.heap c.set_run-done.new.self c.set_run-done.result _ _ c.set_run-done.ensures
     (λ none kind. absurd (c.requires.values.numbers (ap (λ s. (facts s.heap.now c.args.object).kind) (sym c.self.view_is) ∙ kind)))
-    tt (
+    tt tt (
       c.self.invariant.0.heap (ap (λ s. s.heap.down) c.self.view_is ∙ c.requires.up),
       c.self.invariant.1 (ap (λ s. s.heap.down) c.self.view_is ∙ c.requires.up),
       c.self.invariant.0.sizes (ap (λ s. s.heap.down) c.self.view_is ∙ c.requires.up),
@@ -17,9 +17,9 @@ invariant_of-self g c =
 
 pub invariant_of-self-in_default : goal.invariant_of-self-in_default
 invariant_of-self-in_default g c =
-    let k = known_change c.self.inside.marks c.self.inside.ram.sizes _ c.self.inside.heap c.set_run-done.new.self c.set_run-done.result _ _ c.set_run-done.ensures
+    let k = known_change c.self.inside.marks c.self.inside.images c.self.inside.ram.sizes _ c.self.inside.heap c.set_run-done.new.self c.set_run-done.result _ _ c.set_run-done.ensures
     (λ none kind. absurd (c.requires.values.numbers (ap (λ s. (facts s.heap.now c.args.object).kind) (sym c.self.view_is) ∙ kind)))
-    tt (
+    tt tt (
       c.self.invariant.0.heap (ap (λ s. s.heap.down) c.self.view_is ∙ c.requires.up),
       c.self.invariant.1 (ap (λ s. s.heap.down) c.self.view_is ∙ c.requires.up),
       c.self.invariant.0.sizes (ap (λ s. s.heap.down) c.self.view_is ∙ c.requires.up),

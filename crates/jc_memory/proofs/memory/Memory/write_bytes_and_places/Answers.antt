@@ -1,14 +1,17 @@
 use Rattle.std.proofs.Common.{ap, ◌∙◌, ◌++◌, subst, sym}
 use Rattle.jc_heap.specs.Place.{cell_changes}
 use Rattle.jc_heap.specs.HeapLaws.{AreLegalValues}
+use Rattle.jc_heap.specs.Place.{AreThere}
+use Rattle.jc_memory.proofs.KeptImages.{all_there, cells_there}
 use Rattle.jc_memory.proofs.Marking.{known_change}
 use Rattle.jc_memory.proofs.memory.Memory.write_bytes_and_places.Goals as goal
 
 pub invariant_of-self : goal.invariant_of-self
 invariant_of-self g c =
-    let k = known_change c.self.inside.marks c.self.inside.ram.sizes _ c.self.inside.heap c.set_run_and_places.new.self c.set_run_and_places.result _ _ c.set_run_and_places.ensures
+    let k = known_change c.self.inside.marks c.self.inside.images c.self.inside.ram.sizes _ c.self.inside.heap c.set_run_and_places.new.self c.set_run_and_places.result _ _ c.set_run_and_places.ensures
     (λ none. subst (λ s. AreLegalValues s.heap.now (cell_changes c.args.object c.args.i c.args.bytes.now ++ c.args.places.now)) (sym c.self.view_is) c.requires.references)
-    tt (
+    tt (cells_there c.self.inside.heap.now c.args.object c.args.i c.args.bytes.now c.args.places.now
+    (all_there c.self.inside.heap.now c.args.places.now (subst (λ s. AreThere s.heap.now c.args.places.now) (sym c.self.view_is) c.requires.there))) (
       c.self.invariant.0.heap (ap (λ s. s.heap.down) c.self.view_is ∙ c.requires.up),
       c.self.invariant.1 (ap (λ s. s.heap.down) c.self.view_is ∙ c.requires.up),
       c.self.invariant.0.sizes (ap (λ s. s.heap.down) c.self.view_is ∙ c.requires.up),

@@ -6,7 +6,7 @@ use Rattle.jc_memory.proofs.ProgramLemmas.{down_did}
 use Rattle.jc_world.specs.NativeCalls.{after_call}
 use Rattle.jc_api_framework.specs.Apdu.{apdu_set_outgoing_and_send, then_call, apdu_send_bytes, apdu_set_outgoing_length, apdu_set_outgoing}
 use Rattle.jc_api_framework.proofs.ApduCalls.InARow.{at_both, then_broken, then_made}
-use Rattle.jc_api_framework.proofs.apdu.send.apdu_set_outgoing_and_send.Goals as goal
+use Rattle.jc_api_framework.proofs.apdu.send.set_outgoing_and_send.Goals as goal
 
 pub returns-in_err-apdu_set_outgoing : goal.returns-in_err-apdu_set_outgoing
 unfolding apdu_set_outgoing_and_send
