@@ -8,10 +8,10 @@ use Rattle.jc_memory.specs.Making.{object_creation}
 use Rattle.jc_memory.specs.Programs.{Program, Finish, Perform}
 use Rattle.jc_memory.specs.Reading.{AllDue}
 use Rattle.jc_memory.specs.State.{MemoryState, Effect, HeapMove, SetRegisters, SendBytes, apply_effect, IsNew, SetFlag}
-use Rattle.jc_memory.specs.declared.registers.AppletNumber.{AppletNumber}
+use Rattle.jc_transient.specs.declared.owner.AppletNumber.{AppletNumber}
 use Rattle.jc_memory.specs.declared.registers.Depth.{Depth}
 use Rattle.jc_memory.specs.declared.registers.Depth.TheVariants.{Outside, Inside}
-use Rattle.jc_memory.specs.declared.registers.PackageNumber.{PackageNumber}
+use Rattle.jc_transient.specs.declared.owner.PackageNumber.{PackageNumber}
 use Rattle.jc_memory.specs.declared.registers.Registers.{Registers}
 use Rattle.jc_environment.specs.Pins.PinInit.{first_record, value_array}
 use Rattle.jc_environment.specs.Pins.{is_pin, counter, record_of}

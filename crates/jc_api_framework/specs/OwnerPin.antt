@@ -17,7 +17,7 @@ use Rattle.jc_frames.specs.declared.outcome.FrameExit.TheVariants as stop
 use Rattle.jc_memory.specs.State.{MemoryState, SetFlag}
 use Rattle.jc_memory.specs.Programs.{Program, Perform, bind}
 use Rattle.jc_memory.specs.Cells.{header_at}
-use Rattle.jc_memory.specs.Owners.{owner_of}
+use Rattle.jc_transient.specs.Owners.{owner_of}
 use Rattle.jc_linker.specs.Values.{Packages}
 use Rattle.jc_platform.specs.declared.names.PinsMethod.{PinsMethod}
 use Rattle.jc_platform.specs.declared.names.PinsMethod.TheVariants.{PinCheck, PinGetTriesRemaining, PinIsValidated, PinReset}

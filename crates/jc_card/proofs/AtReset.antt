@@ -3,7 +3,7 @@ use Rattle.std.proofs.Common.{◌≡◌, ◌∙◌, ◌+◌, Some, None, sym, ap
 use Rattle.jc_heap.specs.Heap.{HeapState, HeapView, facts}
 use Rattle.jc_transient.specs.State.{IsCleared}
 use Rattle.jc_memory.specs.Cells.{word_in, word_of}
-use Rattle.jc_memory.specs.Owners.{at_reset}
+use Rattle.jc_memory.specs.Registers.{at_reset}
 use Rattle.jc_memory.specs.State.{MemoryState}
 use Rattle.jc_card.specs.Card.{CardState}
 use Rattle.jc_card.specs.declared.power_up.CardParts.{CardParts}

@@ -4,7 +4,7 @@ use Rattle.std.specs.Prelude.{if◌then◌else◌}
 use Rattle.std.specs.Int.{w16, cast_unsigned}
 use Rattle.std.specs.Option.{option_or}
 use Rattle.std.specs.Str.{bytes_eq}
-use Rattle.jc_memory.specs.declared.registers.AppletNumber.{AppletNumber}
+use Rattle.jc_transient.specs.declared.owner.AppletNumber.{AppletNumber}
 use Rattle.jc_memory.specs.Commands.{has_extended_length, takes_extended_length, two_bytes}
 use Rattle.jc_memory.specs.State.{MemoryState, BeginCommand}
 use Rattle.jc_memory.specs.Programs.{Program, Finish, bind}

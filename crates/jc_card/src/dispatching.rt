@@ -20,7 +20,8 @@ use jc_environment::applet_with_aid;
 use jc_frames::Frames;
 use jc_interp::attacks::Budget;
 use jc_linker::linked::Linked;
-use jc_memory::{AppletNumber, Memory, has_extended_length, two_bytes};
+use jc_memory::{Memory, has_extended_length, two_bytes};
+use jc_transient::AppletNumber;
 use jc_words::{StoreDown, WordStore};
 
 /// The AID by which the manager is selected.

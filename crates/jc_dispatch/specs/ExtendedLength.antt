@@ -1,7 +1,7 @@
 -- Applets that take commands in the extended form (API specification, ExtendedLength).
 use Rattle.std.specs.Prelude.{Bool, false, Option, Some, None}
 use Rattle.jc_heap.specs.declared.object.Facts.{Facts}
-use Rattle.jc_memory.specs.declared.registers.AppletNumber.{AppletNumber}
+use Rattle.jc_transient.specs.declared.owner.AppletNumber.{AppletNumber}
 use Rattle.jc_memory.specs.Cells.{header_at}
 use Rattle.jc_memory.specs.State.{MemoryState}
 use Rattle.jc_platform.specs.declared.names.PlatformClass.TheVariants.{ExtendedLength}

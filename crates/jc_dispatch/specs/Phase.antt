@@ -8,8 +8,8 @@ use Rattle.jc_frames.specs.declared.outcome.Outcome.{Outcome}
 use Rattle.jc_frames.specs.declared.outcome.Outcome.TheVariants.{Void, Short, Fault}
 use Rattle.jc_frames.specs.Frames.{Frames}
 use Rattle.jc_memory.specs.declared.registers.Depth.TheVariants.{Outside}
-use Rattle.jc_memory.specs.declared.registers.Owner.{Owner}
-use Rattle.jc_memory.specs.declared.registers.Owner.TheVariants.{Runtime}
+use Rattle.jc_transient.specs.declared.owner.Owner.{Owner}
+use Rattle.jc_transient.specs.declared.owner.Owner.TheVariants.{Runtime}
 use Rattle.jc_memory.specs.declared.registers.Registers.{Registers}
 use Rattle.jc_memory.specs.State.{MemoryState, Effect, HeapMove, SetRegisters, apply_effect}
 use Rattle.jc_memory.specs.Programs.{Program, Finish, Perform, bind}

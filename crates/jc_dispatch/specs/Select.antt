@@ -4,8 +4,8 @@ use Rattle.std.specs.Prelude.{ℕ, ◌==◌, Bool, true, false, ◌&&◌, List, 
 use Rattle.jc_transient.specs.declared.cell.ClearEvent.TheVariants.{Deselect}
 use Rattle.jc_frames.specs.declared.cell.Cell.TheVariants.{Reference}
 use Rattle.jc_memory.specs.declared.registers.ApduPhase.TheVariants.{Waiting}
-use Rattle.jc_memory.specs.declared.registers.AppletNumber.{AppletNumber}
-use Rattle.jc_memory.specs.declared.registers.Owner.TheVariants.{Applet}
+use Rattle.jc_transient.specs.declared.owner.AppletNumber.{AppletNumber}
+use Rattle.jc_transient.specs.declared.owner.Owner.TheVariants.{Applet}
 use Rattle.jc_memory.specs.declared.registers.Registers.{Registers}
 use Rattle.jc_memory.specs.Commands.{header_length}
 use Rattle.jc_memory.specs.State.{MemoryState, SetRegisters, ClearTransient}

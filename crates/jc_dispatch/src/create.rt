@@ -10,7 +10,8 @@ use crate::applet_result::AppletResult;
 use crate::install::{NewApplet, install};
 use jc_interp::attacks::Budget;
 use jc_linker::linked::Linked;
-use jc_memory::{Memory, PackageNumber};
+use jc_memory::Memory;
+use jc_transient::PackageNumber;
 use jc_words::layout::MOST_APPLETS;
 use jc_words::{StoreDown, WordStore};
 

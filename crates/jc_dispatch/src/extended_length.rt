@@ -4,8 +4,9 @@ ghost use Rattle.jc_dispatch.specs.ExtendedLength.{implements_extended_length};
 
 use crate::phase::instance_of;
 use jc_linker::linked::Linked;
-use jc_memory::{AppletNumber, Memory};
+use jc_memory::Memory;
 use jc_platform::names::PlatformClass;
+use jc_transient::AppletNumber;
 use jc_words::WordStore;
 
 /// Whether the class of an applet, or one above it, implements `ExtendedLength`. Where no applet answers, it does not.

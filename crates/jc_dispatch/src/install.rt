@@ -12,11 +12,8 @@ use crate::phase::{CodeCall, run_for};
 use jc_frames::{Cell, Frames, Outcome};
 use jc_interp::attacks::Budget;
 use jc_linker::linked::Linked;
-use jc_memory::{
-    ApduPhase, ApduState, AppletNumber, Depth, Installation, Memory, Owner, PackageNumber, Phase,
-    Registers,
-};
-use jc_transient::ClearEvent;
+use jc_memory::{ApduPhase, ApduState, Depth, Installation, Memory, Phase, Registers};
+use jc_transient::{AppletNumber, ClearEvent, Owner, PackageNumber};
 use jc_words::{StoreDown, WordStore};
 
 /// An applet that is to be installed.

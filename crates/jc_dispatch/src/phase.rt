@@ -12,9 +12,9 @@ use jc_interp::begin;
 use jc_interp::run::run_methods;
 use jc_linker::linked::Linked;
 use jc_linker::target::Method;
-use jc_memory::{AppletNumber, Memory, Notes, Owner, Phase};
+use jc_memory::{Memory, Notes, Phase};
 use jc_platform::names::{AppletsMethod, PlatformMethod};
-use jc_transient::Ref;
+use jc_transient::{AppletNumber, Owner, Ref};
 use jc_words::{StoreDown, WordStore};
 
 /// Code that the runtime environment calls: its place in a package, its arguments, and for whom it runs.

@@ -11,8 +11,9 @@ use crate::phase::{AppletCall, call_applet_method, instance_of};
 use jc_frames::{Cell, Frames};
 use jc_interp::attacks::Budget;
 use jc_linker::linked::Linked;
-use jc_memory::{ApduPhase, ApduState, AppletNumber, Memory, Owner, Registers};
+use jc_memory::{ApduPhase, ApduState, Memory, Registers};
 use jc_platform::names::{AppletsMethod, PlatformMethod};
+use jc_transient::{AppletNumber, Owner};
 use jc_words::{StoreDown, WordStore};
 
 /// A command for an applet, which begins to answer it.

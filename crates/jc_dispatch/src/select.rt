@@ -11,9 +11,9 @@ use crate::process::{AppletCommand, process};
 use jc_frames::{Cell, Frames};
 use jc_interp::attacks::Budget;
 use jc_linker::linked::Linked;
-use jc_memory::{AppletNumber, Memory, Owner, Registers};
+use jc_memory::{Memory, Registers};
 use jc_platform::names::{AppletsMethod, PlatformMethod};
-use jc_transient::ClearEvent;
+use jc_transient::{AppletNumber, ClearEvent, Owner};
 use jc_words::{StoreDown, WordStore};
 
 fn is_same_applet(next: Option<AppletNumber>, selected: Option<AppletNumber>) -> bool

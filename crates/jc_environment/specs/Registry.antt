@@ -8,7 +8,7 @@ use Rattle.jc_heap.specs.RegistryLayout.{entry_start, entry_aid, entry_package, 
 use Rattle.jc_heap.specs.declared.place.AppletEntry.{AppletEntry}
 use Rattle.jc_heap.specs.Heap.{HeapState}
 use Rattle.jc_memory.specs.State.{MemoryState}
-use Rattle.jc_memory.specs.declared.registers.AppletNumber.{AppletNumber}
+use Rattle.jc_transient.specs.declared.owner.AppletNumber.{AppletNumber}
 use Rattle.jc_environment.specs.Aid.{aid_at}
 
 -- how many applets there are

@@ -6,8 +6,8 @@ ghost use Rattle.jc_environment.specs.Registry.{aid_of_applet, applet_count, app
 use crate::aid::{aid_at, may_hold};
 use jc_heap::AppletEntry;
 use jc_heap::registry_layout::{ENTRY_INSTANCE, ENTRY_PACKAGE, entry_start};
-use jc_memory::{AppletNumber, Memory};
-use jc_transient::Ref;
+use jc_memory::Memory;
+use jc_transient::{AppletNumber, Ref};
 use jc_words::WordStore;
 use jc_words::layout::MOST_APPLETS;
 

@@ -1,6 +1,6 @@
 //! Which method a frame runs, and what it comes back to.
 
-use jc_memory::Owner;
+use jc_transient::Owner;
 
 /// Which method a frame runs.
 #[derive(Clone, Copy, Default)]
@@ -22,7 +22,7 @@ pub enum CallKind {
 }
 
 /// What a return comes back to.
-#[derive(Clone, Copy)]
+#[derive(Clone, Copy, Default)]
 pub struct ReturnPoint {
     /// The owner that was active before the call.
     pub active: Owner,
@@ -32,29 +32,6 @@ pub struct ReturnPoint {
     pub place: u16,
     /// Who called.
     pub call: CallKind,
-}
-
-impl Default for ReturnPoint {
-    ghost use Rattle.std.specs.Prelude.{◌≡◌};
-    ghost use Rattle.jc_memory.specs.declared.registers.Owner.TheVariants.{Runtime};
-    ghost use Rattle.jc_frames.specs.declared.method.CallKind.TheVariants.{Instruction};
-
-    ghost is_default = { λ p. p ≡ record {
-      active = Runtime;
-      previous = Runtime;
-      place = 0;
-      call = Instruction;
-    } };
-
-    /// As of a call by the runtime environment.
-    fn default() -> Self {
-        ReturnPoint {
-            active: Owner::Runtime,
-            previous: Owner::Runtime,
-            place: 0,
-            call: CallKind::Instruction,
-        }
-    }
 }
 
 /// A method as it is called.

@@ -1,7 +1,7 @@
 -- How the frame of a method in bytecode begins.
 use Rattle.std.specs.Prelude.{ℕ, ◌+◌, ◌==◌, ◌&&◌, not, nat_le, Bool, List, [], length, Option, Some, None, if◌then◌else◌}
 use Rattle.std.specs.Option.{option_and_then}
-use Rattle.jc_memory.specs.declared.registers.Owner.{Owner}
+use Rattle.jc_transient.specs.declared.owner.Owner.{Owner}
 use Rattle.jc_memory.specs.declared.registers.Registers.{Registers}
 use Rattle.jc_memory.specs.State.{MemoryState, SetRegisters}
 use Rattle.jc_memory.specs.Programs.{Program, Finish, Perform}

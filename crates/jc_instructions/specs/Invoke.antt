@@ -2,8 +2,8 @@
 use Rattle.std.specs.Prelude.{ℕ, ◌≡◌, ◌-◌, ◌==◌, ◌||◌, not, Bool, true, false, List, slice_get, Option, Some, None, Result, Ok, Err, if◌then◌else◌}
 use Rattle.std.specs.Option.{option_map, option_and_then}
 use Rattle.jc_heap.specs.declared.object.Facts.{Facts}
-use Rattle.jc_memory.specs.declared.registers.Owner.{Owner}
-use Rattle.jc_memory.specs.Owners.{owner_of}
+use Rattle.jc_transient.specs.declared.owner.Owner.{Owner}
+use Rattle.jc_transient.specs.Owners.{owner_of}
 use Rattle.jc_memory.specs.State.{MemoryState}
 use Rattle.jc_cap.specs.declared.pool.VirtualToken.{VirtualToken}
 use Rattle.jc_platform.specs.declared.names.PlatformClass.TheVariants.{Object}

@@ -1,6 +1,6 @@
 -- The runtime environment asks a server for its shareable interface object.
 use Rattle.std.specs.Prelude.{ℕ, ◌+◌, Bool, Option, Some, None, if◌then◌else◌}
-use Rattle.jc_memory.specs.declared.registers.Owner.TheVariants.{Applet}
+use Rattle.jc_transient.specs.declared.owner.Owner.TheVariants.{Applet}
 use Rattle.jc_memory.specs.declared.registers.Registers.{Registers}
 use Rattle.jc_memory.specs.State.{MemoryState}
 use Rattle.jc_memory.specs.Programs.{Program, Finish}

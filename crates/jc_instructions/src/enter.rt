@@ -12,7 +12,8 @@ use jc_frames::{
     header_at,
 };
 use jc_linker::linked::Linked;
-use jc_memory::{Memory, Owner, Registers};
+use jc_memory::{Memory, Registers};
+use jc_transient::Owner;
 use jc_words::WordStore;
 use jc_world::StepExit;
 

@@ -12,9 +12,9 @@ use jc_cap::pool::VirtualToken;
 use jc_frames::{CallKind, Cell, CodeFault, Entry, Frames, Header, Outcome, header_at};
 use jc_linker::linked::Linked;
 use jc_linker::target::Method;
-use jc_memory::{Memory, Owner, Registers};
+use jc_memory::{Memory, Registers};
 use jc_platform::names::{AppletsMethod, PlatformMethod};
-use jc_transient::{ClassWord, Ref};
+use jc_transient::{ClassWord, Owner, Ref};
 use jc_words::WordStore;
 use jc_world::{ServerCall, StepExit};
 

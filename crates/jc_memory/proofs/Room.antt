@@ -30,7 +30,7 @@ use Rattle.jc_heap.proofs.Places.{bare_stays}
 use Rattle.jc_heap.proofs.KeepingMoves.{top-run, top-places}
 use Rattle.jc_heap.proofs.Laws.{heap_item_at-add_object, heap_item_at-add_other, object_named, same_facts, facts-set_cell}
 use Rattle.jc_memory.specs.declared.making.NewObject.{NewObject}
-use Rattle.jc_memory.specs.Owners.{owner_number}
+use Rattle.jc_transient.specs.Owners.{owner_number}
 use Rattle.jc_memory.specs.State.{MemoryState, HeapMove, IsNew, apply_effect}
 use Rattle.jc_memory.specs.Programs.{Program, Finish, Perform, Choose, Completes, IsTornIn, Executes, unless_refused}
 use Rattle.jc_memory.specs.Cells.{cell_refusal_in, cells_effect_in}

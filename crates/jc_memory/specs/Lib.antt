@@ -1,4 +1,4 @@
-pub mod Owners
+pub mod Registers
 pub mod Power
 pub mod State
 pub mod Programs

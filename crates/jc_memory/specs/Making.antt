@@ -5,7 +5,7 @@ use Rattle.jc_heap.specs.declared.refusal.HeapRefusal.{HeapRefusal}
 use Rattle.jc_heap.specs.Moves.{Move, AddTransient, new_move, refusal_of_transient, refusal_of_object as no_persistent}
 use Rattle.jc_heap.specs.Completions.{Attempt, Done}
 use Rattle.jc_memory.specs.declared.making.NewObject.{NewObject}
-use Rattle.jc_memory.specs.Owners.{owner_number}
+use Rattle.jc_transient.specs.Owners.{owner_number}
 use Rattle.jc_memory.specs.State.{MemoryState, HeapMove}
 use Rattle.jc_memory.specs.Programs.{Program, Finish, Perform, Choose, unless_refused}
 

@@ -11,7 +11,7 @@ ghost use Rattle.jc_heap.specs.declared.touch.Touch.TheVariants.{HeapEnd};
 ghost use Rattle.jc_heap.specs.Touch.{CanTouch, touched_places, touched_cells, once_made};
 ghost use Rattle.jc_words.specs.Layout.{most_applets};
 ghost use Rattle.jc_memory.specs.Cells.{MayHaveAll};
-ghost use Rattle.jc_memory.specs.Owners.{owner_number};
+ghost use Rattle.jc_transient.specs.Owners.{owner_number};
 ghost use Rattle.jc_memory.specs.Programs.{Executes, Finish};
 ghost use Rattle.jc_heap.specs.Completions.{after_step};
 ghost use Rattle.jc_memory.specs.Making.{object_creation};

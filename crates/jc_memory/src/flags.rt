@@ -4,8 +4,8 @@ ghost use Rattle.jc_transient.specs.State.{flag_of};
 ghost use Rattle.jc_memory.specs.State.{SetFlag, ClearTransient, SetRegisters, apply_effect};
 
 use crate::memory::Memory;
-use crate::registers::{Owner, Registers};
-use jc_transient::{ClearEvent, Ref};
+use crate::registers::Registers;
+use jc_transient::{ClearEvent, Owner, Ref};
 use jc_words::WordStore;
 
 impl<S: WordStore> Memory<S> {

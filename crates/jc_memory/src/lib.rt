@@ -44,6 +44,4 @@ pub use program_laws::{
     aborts_null_dead_references, calls_follow_one_another, losses_fall_before_a_move,
     new_references_are_fresh,
 };
-pub use registers::{
-    ApduPhase, ApduState, AppletNumber, Depth, Installation, Owner, PackageNumber, Registers,
-};
+pub use registers::{ApduPhase, ApduState, Depth, Installation, Registers};

@@ -6,9 +6,8 @@ ghost use Rattle.jc_memory.specs.State.{zero_of};
 ghost use Rattle.jc_memory.specs.Making.{new_object};
 
 use crate::memory::Memory;
-use crate::registers::Owner;
 use jc_heap::{HeapRefusal, Kind};
-use jc_transient::{CellValue, ClassWord, ClearEvent, Ref};
+use jc_transient::{CellValue, ClassWord, ClearEvent, Owner, Ref};
 use jc_words::WordStore;
 
 /// What a new object is to be.

@@ -3,7 +3,7 @@ ghost use Rattle.std.specs.Prelude.{◌≡◌, ◌<◌, [], false, IfOk, IfSome,
 ghost use Rattle.jc_heap.specs.Heap.{IsObject, area_sizes};
 ghost use Rattle.jc_heap.specs.WholeHeap.{IsConsistent};
 ghost use Rattle.jc_transient.specs.State.{HasSizes};
-ghost use Rattle.jc_memory.specs.Owners.{at_reset};
+ghost use Rattle.jc_memory.specs.Registers.{at_reset};
 ghost use Rattle.jc_memory.specs.Cells.{IsHeaderOf, header_at};
 ghost use Rattle.jc_memory.specs.Marks.{AreObjects};
 

@@ -1,56 +1,8 @@
 //! For whom code runs, and how far a command has come.
 ghost use Rattle.std.specs.Prelude.{◌≡◌};
-ghost use Rattle.jc_memory.specs.Owners.{owner_number, owner_of, at_reset};
+ghost use Rattle.jc_memory.specs.Registers.{at_reset};
 
-use jc_transient::{OwnerWord, RUNTIME_ENVIRONMENT};
-
-/// An applet instance by its number in the registry, 1 to 64.
-#[derive(Clone, Copy)]
-pub struct AppletNumber(pub u8);
-
-/// A package by its number.
-#[derive(Clone, Copy)]
-pub struct PackageNumber(pub u8);
-
-/// Who owns objects, and for whom code runs.
-#[derive(Clone, Copy)]
-pub enum Owner {
-    /// The runtime environment.
-    Runtime,
-    /// An applet instance.
-    Applet(AppletNumber),
-    /// A package: it owns its initialised arrays.
-    Package(PackageNumber),
-}
-
-impl Owner {
-    /// The owner as an object header has it: 0, the number of the applet, or 256 and the number of
-    /// the package.
-    #[inline(always)]
-    pub const fn number(self) -> OwnerWord
-        ensures { result ≡ owner_number self }
-    {
-        match self {
-            Owner::Runtime => RUNTIME_ENVIRONMENT,
-            Owner::Applet(applet) => OwnerWord(applet.0 as u16),
-            Owner::Package(package) => OwnerWord(256 + package.0 as u16),
-        }
-    }
-
-    /// The owner that an object header names.
-    #[inline(always)]
-    pub const fn of(number: OwnerWord) -> Owner
-        ensures { result ≡ owner_of number }
-    {
-        if number.0 == 0 {
-            return Owner::Runtime;
-        }
-        if number.0 < 256 {
-            return Owner::Applet(AppletNumber(number.0 as u8));
-        }
-        Owner::Package(PackageNumber((number.0 % 256) as u8))
-    }
-}
+use jc_transient::{AppletNumber, Owner, PackageNumber};
 
 /// Whether the applet has begun a transaction: the nesting level 1 or 0.
 #[derive(Clone, Copy)]

@@ -1,2 +1,3 @@
 pub mod Cell
+pub mod Owners
 pub mod State

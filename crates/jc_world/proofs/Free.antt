@@ -4,8 +4,8 @@ use Rattle.std.specs.Prelude.{if◌then◌else◌}
 use Rattle.jc_heap.specs.declared.object.Facts.{Facts}
 use Rattle.jc_heap.specs.declared.object.Kind.{Kind}
 use Rattle.jc_heap.specs.declared.object.Kind.TheVariants.{Instance, BooleanArray, ByteArray, ShortArray, ReferenceArray}
-use Rattle.jc_memory.specs.declared.registers.Owner.TheVariants.{Runtime}
-use Rattle.jc_memory.specs.Owners.{owner_of}
+use Rattle.jc_transient.specs.declared.owner.Owner.TheVariants.{Runtime}
+use Rattle.jc_transient.specs.Owners.{owner_of}
 use Rattle.jc_memory.specs.State.{MemoryState}
 use Rattle.jc_linker.specs.Values.{Packages}
 use Rattle.jc_firewall.specs.declared.access.Access.{Access}

@@ -6,7 +6,7 @@ ghost use Rattle.jc_firewall.specs.declared.access.Access.TheVariants.{ArrayElem
 ghost use Rattle.jc_firewall.specs.declared.decide.Decision.TheVariants.{Allow, Switch};
 ghost use Rattle.jc_firewall.specs.declared.subject.Context.TheVariants.{Jcre};
 ghost use Rattle.jc_world.specs.Objects.{is_instance};
-ghost use Rattle.jc_memory.specs.Owners.{owner_number, owner_of};
+ghost use Rattle.jc_transient.specs.Owners.{owner_number, owner_of};
 ghost use Rattle.jc_memory.specs.State.{MemoryState};
 ghost use Rattle.jc_linker.specs.Values.{Packages};
 ghost use Rattle.jc_world.specs.Contexts.{firewall_check, context_of, firewall_decision, needs_shareable, designation_of, installed_package};
@@ -20,9 +20,9 @@ use jc_frames::{Exception, FrameExit};
 use jc_heap::registry_layout::{ENTRY_PACKAGE, entry_start};
 use jc_heap::{Facts, Kind};
 use jc_linker::linked::Linked;
-use jc_memory::{Denial, Installation, Memory, Owner, Registers};
+use jc_memory::{Denial, Installation, Memory, Registers};
 use jc_platform::names::PlatformClass;
-use jc_transient::{ClassWord, ClearEvent, OwnerWord, RUNTIME_ENVIRONMENT};
+use jc_transient::{ClassWord, ClearEvent, Owner, OwnerWord, RUNTIME_ENVIRONMENT};
 use jc_words::WordStore;
 use jc_words::layout::MOST_APPLETS;
 

@@ -1,8 +1,7 @@
 //! What calls of the platform's methods answer.
 
 use jc_frames::Cell;
-use jc_memory::AppletNumber;
-use jc_transient::Ref;
+use jc_transient::{AppletNumber, Ref};
 
 /// A server that is asked for its shareable interface object.
 #[derive(Clone, Copy)]

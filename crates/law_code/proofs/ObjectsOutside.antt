@@ -9,9 +9,9 @@ use Rattle.jc_transient.specs.State.{RamState, HasSizes, area, area_size, size_i
 use Rattle.jc_heap.specs.Object.{Object, Item, AnObject, APackage, is_object, facts_of}
 use Rattle.jc_heap.specs.Heap.{IsObject, heap_item_at, facts, area_end}
 use Rattle.jc_heap.proofs.OwnCells.{owns_cells}
-use Rattle.jc_memory.specs.declared.registers.Owner.{Owner}
-use Rattle.jc_memory.specs.declared.registers.Owner.TheVariants.{Runtime, Applet, Package}
-use Rattle.jc_memory.specs.Owners.{owner_of}
+use Rattle.jc_transient.specs.declared.owner.Owner.{Owner}
+use Rattle.jc_transient.specs.declared.owner.Owner.TheVariants.{Runtime, Applet, Package}
+use Rattle.jc_transient.specs.Owners.{owner_of}
 use Rattle.jc_memory.specs.State.{MemoryState, Effect, apply_effect, apply_effects}
 use Rattle.jc_memory.specs.Reading.{AllEffectsDue}
 use Rattle.jc_linker.specs.Values.{Packages}

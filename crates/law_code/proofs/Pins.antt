@@ -18,7 +18,7 @@ use Rattle.jc_firewall.specs.FirewallLaws.{IsInReach}
 use Rattle.jc_firewall.specs.Situation.{global_array, same_context}
 use Rattle.jc_memory.specs.State.{MemoryState}
 use Rattle.jc_memory.specs.Cells.{header_at}
-use Rattle.jc_memory.specs.Owners.{owner_of}
+use Rattle.jc_transient.specs.Owners.{owner_of}
 use Rattle.jc_linker.specs.Values.{Packages}
 use Rattle.jc_environment.specs.Pins.{is_persistent_with, has_value, is_pin, record_of}
 use Rattle.jc_heap.specs.Place.{cell_changes}

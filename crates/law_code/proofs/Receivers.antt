@@ -8,7 +8,7 @@ use Rattle.std.specs.Option.{option_and_then}
 use Rattle.std.specs.Prelude.{not, nat_le, slice_get, ◌==◌}
 use Rattle.jc_heap.specs.declared.object.Facts.{Facts}
 use Rattle.jc_heap.specs.Heap.{facts}
-use Rattle.jc_memory.specs.declared.registers.Owner.{Owner}
+use Rattle.jc_transient.specs.declared.owner.Owner.{Owner}
 use Rattle.jc_memory.specs.State.{MemoryState}
 use Rattle.jc_linker.specs.declared.target.Method.{Method}
 use Rattle.jc_linker.specs.declared.target.Method.TheVariants.{Native}

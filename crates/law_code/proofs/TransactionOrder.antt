@@ -5,7 +5,7 @@ use Rattle.jc_transient.specs.declared.cell.CellValue.TheVariants.{Short}
 use Rattle.jc_transient.specs.declared.cell.ClearEvent.{ClearEvent}
 use Rattle.jc_heap.specs.Heap.{facts}
 use Rattle.jc_memory.specs.declared.making.NewObject.{NewObject}
-use Rattle.jc_memory.specs.declared.registers.PackageNumber.{PackageNumber}
+use Rattle.jc_transient.specs.declared.owner.PackageNumber.{PackageNumber}
 use Rattle.jc_memory.specs.Cells.{cell_effect_in, cells_effect_in}
 use Rattle.jc_memory.specs.Changes.{nonatomic_store}
 use Rattle.jc_memory.specs.Making.{creation_move}

@@ -6,8 +6,8 @@ use Rattle.std.specs.Prelude.{ℤ, not, drop, is_some, nat_lt, ◌&&◌, ◌||�
 use Rattle.jc_transient.specs.declared.cell.CellValue.TheVariants.{Short}
 use Rattle.jc_heap.specs.declared.object.Facts.{Facts}
 use Rattle.jc_heap.specs.Heap.{HeapState}
-use Rattle.jc_memory.specs.declared.registers.Owner.{Owner}
-use Rattle.jc_memory.specs.declared.registers.Owner.TheVariants.{Applet}
+use Rattle.jc_transient.specs.declared.owner.Owner.{Owner}
+use Rattle.jc_transient.specs.declared.owner.Owner.TheVariants.{Applet}
 use Rattle.jc_memory.specs.State.{MemoryState, Effect, HeapMove, SetTransient, SetFlag, ClearTransient, SetRegisters, BeginCommand, SendBytes}
 use Rattle.jc_memory.specs.State.{apply_effect}
 use Rattle.jc_memory.specs.Cells.{header_at}

@@ -20,8 +20,8 @@ use Rattle.jc_heap.proofs.Keeping.{object-header_only}
 use Rattle.jc_frames.specs.declared.outcome.FrameExit.{FrameExit}
 use Rattle.jc_memory.specs.declared.registers.Installation.{Installation}
 use Rattle.jc_memory.specs.declared.registers.Installation.TheVariants.{Idle, Open, Registered}
-use Rattle.jc_memory.specs.declared.registers.PackageNumber.{PackageNumber}
-use Rattle.jc_memory.specs.Owners.{owner_number}
+use Rattle.jc_transient.specs.declared.owner.PackageNumber.{PackageNumber}
+use Rattle.jc_transient.specs.Owners.{owner_number}
 use Rattle.jc_memory.specs.State.{MemoryState, HeapMove, IsNew, SetRegisters, apply_effect}
 use Rattle.jc_memory.specs.Cells.{byte_at, header_at}
 use Rattle.jc_linker.specs.Classes.{is_class, reference_cell, size_of, is_a}

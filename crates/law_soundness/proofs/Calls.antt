@@ -1,7 +1,7 @@
 -- Calls.
 use Rattle.std.proofs.Common.{◌≡◌, true, List, Some, refl, ap}
-use Rattle.jc_memory.specs.declared.registers.Owner.{Owner}
-use Rattle.jc_memory.specs.Owners.{owner_number}
+use Rattle.jc_transient.specs.declared.owner.Owner.{Owner}
+use Rattle.jc_transient.specs.Owners.{owner_number}
 use Rattle.jc_memory.specs.State.{MemoryState}
 use Rattle.jc_platform.specs.declared.names.PlatformMethod.{PlatformMethod}
 use Rattle.jc_linker.specs.declared.target.Method.TheVariants.{Native}

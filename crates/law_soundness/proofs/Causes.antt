@@ -10,12 +10,12 @@ use Rattle.jc_heap.specs.declared.object.Facts.{Facts}
 use Rattle.jc_heap.specs.Heap.{facts}
 use Rattle.jc_heap.specs.Moves.{AddPackage}
 use Rattle.jc_memory.specs.declared.making.NewObject.{NewObject}
-use Rattle.jc_memory.specs.declared.registers.Owner.{Owner}
-use Rattle.jc_memory.specs.declared.registers.PackageNumber.{PackageNumber}
+use Rattle.jc_transient.specs.declared.owner.Owner.{Owner}
+use Rattle.jc_transient.specs.declared.owner.PackageNumber.{PackageNumber}
 use Rattle.jc_memory.specs.Cells.{cell_effect_in, cells_effect_in}
 use Rattle.jc_memory.specs.Changes.{nonatomic_store}
 use Rattle.jc_memory.specs.Making.{creation_move}
-use Rattle.jc_memory.specs.Owners.{owner_of}
+use Rattle.jc_transient.specs.Owners.{owner_of}
 use Rattle.jc_memory.specs.Programs.{Program, Finish, Perform, Choose, Either}
 use Rattle.jc_memory.specs.Reading.{AllDue, AllResults, HasTrace}
 use Rattle.jc_memory.specs.State.{MemoryState, Effect, HeapMove, SetTransient, SetFlag, ClearTransient, SetRegisters, BeginCommand, SendBytes, apply_effect, apply_effects}

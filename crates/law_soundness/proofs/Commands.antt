@@ -14,12 +14,12 @@ use Rattle.jc_heap.specs.Heap.{HeapState}
 use Rattle.jc_memory.specs.Commands.{has_extended_length}
 use Rattle.jc_heap.specs.Moves.{Begin}
 use Rattle.jc_frames.specs.declared.cell.Cell.TheVariants.{Short, Reference}
-use Rattle.jc_memory.specs.declared.registers.AppletNumber.{AppletNumber}
+use Rattle.jc_transient.specs.declared.owner.AppletNumber.{AppletNumber}
 use Rattle.jc_memory.specs.declared.registers.Installation.TheVariants.{Idle, Open}
-use Rattle.jc_memory.specs.declared.registers.Owner.TheVariants.{Applet, Runtime}
-use Rattle.jc_memory.specs.declared.registers.PackageNumber.{PackageNumber}
+use Rattle.jc_transient.specs.declared.owner.Owner.TheVariants.{Applet, Runtime}
+use Rattle.jc_transient.specs.declared.owner.PackageNumber.{PackageNumber}
 use Rattle.jc_memory.specs.declared.registers.Registers.{Registers}
-use Rattle.jc_memory.specs.Owners.{owner_number}
+use Rattle.jc_transient.specs.Owners.{owner_number}
 use Rattle.jc_memory.specs.State.{MemoryState, HeapMove, SetRegisters, ClearTransient, apply_effect}
 use Rattle.jc_memory.specs.Programs.{Program, Finish, bind}
 use Rattle.jc_linker.specs.Lookups.{applet_entry, entry_with_aid}

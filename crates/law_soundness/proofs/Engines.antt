@@ -12,7 +12,7 @@ use Rattle.jc_heap.specs.declared.place.Place.TheVariants.{Cell}
 use Rattle.jc_heap.proofs.Laws.{facts-set_cell, heap_item_at-add_object}
 use Rattle.jc_memory.specs.Cells.{word_of}
 use Rattle.jc_memory.specs.Making.{creation_move, creation_refusal}
-use Rattle.jc_memory.specs.Owners.{owner_number}
+use Rattle.jc_transient.specs.Owners.{owner_number}
 use Rattle.jc_memory.specs.Reading.{AllDue}
 use Rattle.jc_memory.specs.State.{HeapMove, IsNew, MemoryState, apply_effect}
 use Rattle.jc_memory.specs.declared.making.NewObject.{NewObject}

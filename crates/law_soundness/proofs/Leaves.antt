@@ -6,7 +6,7 @@ use Rattle.jc_transient.specs.declared.cell.CellValue.TheVariants.{Short}
 use Rattle.jc_heap.specs.declared.object.Facts.{Facts}
 use Rattle.jc_heap.specs.Heap.{facts}
 use Rattle.jc_memory.specs.Cells.{header_at}
-use Rattle.jc_memory.specs.Owners.{owner_number}
+use Rattle.jc_transient.specs.Owners.{owner_number}
 use Rattle.jc_memory.specs.State.{MemoryState, Effect, SetTransient, SetRegisters, apply_effect}
 use Rattle.jc_linker.specs.Values.{Packages}
 use Rattle.jc_frames.specs.declared.method.ReturnPoint.{ReturnPoint}

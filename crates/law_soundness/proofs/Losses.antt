@@ -7,7 +7,8 @@ use Rattle.jc_heap.specs.Heap.{SameShape, area_sizes, facts, heap_item_at}
 use Rattle.jc_heap.specs.HeapLaws.{AreConsistent, IsConsistentHeap}
 use Rattle.jc_heap.proofs.Changing.{shape-same}
 use Rattle.jc_heap.proofs.Laws.{same_facts}
-use Rattle.jc_memory.specs.Owners.{at_reset, owner_number}
+use Rattle.jc_transient.specs.Owners.{owner_number}
+use Rattle.jc_memory.specs.Registers.{at_reset}
 use Rattle.jc_memory.specs.State.{MemoryState}
 use Rattle.jc_linker.specs.Values.{Packages}
 use Rattle.jc_packages.specs.Objects.{is_persistent_instance, is_object_address}

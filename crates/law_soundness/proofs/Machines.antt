@@ -3,7 +3,7 @@ use Rattle.std.proofs.Common.{◌≡◌, false, List, sym, subst, ap, ◌∙◌}
 use Rattle.std.specs.Prelude.{◌==◌}
 use Rattle.jc_heap.specs.WholeHeap.{IsReference}
 use Rattle.jc_memory.specs.Programs.{Program, Finish, Perform, Choose, Either}
-use Rattle.jc_memory.specs.Owners.{owner_number}
+use Rattle.jc_transient.specs.Owners.{owner_number}
 use Rattle.jc_memory.specs.Reading.{AllDue}
 use Rattle.jc_memory.specs.State.{MemoryState, Effect, apply_effect}
 use Rattle.jc_linker.specs.Values.{Packages}

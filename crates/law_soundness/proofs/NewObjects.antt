@@ -7,7 +7,7 @@ use Rattle.jc_heap.specs.Object.{is_object, new_transient, transient_size}
 use Rattle.jc_heap.proofs.Laws.{heap_item_at-add_object}
 use Rattle.jc_memory.specs.declared.making.NewObject.{NewObject}
 use Rattle.jc_memory.specs.Making.{creation_move}
-use Rattle.jc_memory.specs.Owners.{owner_number}
+use Rattle.jc_transient.specs.Owners.{owner_number}
 use Rattle.jc_memory.specs.State.{MemoryState, HeapMove, IsNew, apply_effect}
 use Rattle.law_soundness.proofs.Frames.{end_headers, same_object}
 

@@ -4,9 +4,9 @@ use Rattle.std.proofs.Math.Nat.{add-mod_left, mod-eq_of_lt}
 use Rattle.std.proofs.lemmas.Bool.{and_parts, both_ways, cases_lt, eqb-true, leb-true, lt-ltb, ltb-true, or_cases}
 use Rattle.std.specs.Prelude.{◌==◌, ◌%◌, nat_le, nat_lt}
 use Rattle.jc_heap.specs.Heap.{HeapState, IsObject, facts}
-use Rattle.jc_memory.specs.declared.registers.Owner.TheVariants.{Runtime, Applet, Package}
+use Rattle.jc_transient.specs.declared.owner.Owner.TheVariants.{Runtime, Applet, Package}
 use Rattle.jc_memory.specs.declared.registers.Registers.{Registers}
-use Rattle.jc_memory.specs.Owners.{owner_number, owner_of}
+use Rattle.jc_transient.specs.Owners.{owner_number, owner_of}
 use Rattle.jc_memory.specs.State.{MemoryState}
 use Rattle.jc_linker.specs.Values.{Packages}
 use Rattle.law_soundness.specs.MemoryLaws.Fit.{FitsTurn}

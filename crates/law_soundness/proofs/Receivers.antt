@@ -7,9 +7,9 @@ use Rattle.jc_heap.specs.declared.object.Facts.{Facts}
 use Rattle.jc_heap.specs.declared.object.Kind.{Kind}
 use Rattle.jc_heap.specs.declared.object.Kind.TheVariants.{Instance}
 use Rattle.jc_heap.specs.Heap.{facts}
-use Rattle.jc_memory.specs.declared.registers.Owner.{Owner}
-use Rattle.jc_memory.specs.declared.registers.Owner.TheVariants.{Runtime, Applet, Package}
-use Rattle.jc_memory.specs.Owners.{owner_number, owner_of}
+use Rattle.jc_transient.specs.declared.owner.Owner.{Owner}
+use Rattle.jc_transient.specs.declared.owner.Owner.TheVariants.{Runtime, Applet, Package}
+use Rattle.jc_transient.specs.Owners.{owner_number, owner_of}
 use Rattle.jc_memory.specs.State.{MemoryState}
 use Rattle.jc_linker.specs.declared.target.Method.{Method}
 use Rattle.jc_linker.specs.declared.target.Method.TheVariants.{Native}

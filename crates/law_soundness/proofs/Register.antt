@@ -8,7 +8,7 @@ use Rattle.jc_heap.specs.Moves.{Commit, SetCells, SetPlaces, new_move}
 use Rattle.jc_heap.specs.Object.{Object, new_object, object_size}
 use Rattle.jc_heap.specs.Place.{applet_changes}
 use Rattle.jc_memory.specs.declared.registers.Installation.TheVariants.{Registered}
-use Rattle.jc_memory.specs.declared.registers.PackageNumber.{PackageNumber}
+use Rattle.jc_transient.specs.declared.owner.PackageNumber.{PackageNumber}
 use Rattle.jc_memory.specs.State.{MemoryState, HeapMove, SetRegisters, apply_effect}
 use Rattle.jc_linker.specs.Values.{Packages}
 use Rattle.jc_platform.specs.declared.names.PlatformClass.TheVariants.{Aid}

@@ -9,7 +9,7 @@ use Rattle.jc_heap.specs.Heap.{HeapState, add_object, facts, heap_item_at, is_al
 use Rattle.jc_heap.specs.Moves.{WriteNonAtomic}
 use Rattle.jc_heap.proofs.Laws.{header_only-set_cell, facts-set_cell, heap_item_at-add_object, heap_item_at-add_other, object_named}
 use Rattle.jc_heap.proofs.Keeping.{object-header_only}
-use Rattle.jc_memory.specs.Owners.{owner_number}
+use Rattle.jc_transient.specs.Owners.{owner_number}
 use Rattle.jc_memory.specs.State.{MemoryState, HeapMove, SetFlag, IsNew, apply_effect}
 use Rattle.jc_memory.specs.Making.{object_creation}
 use Rattle.jc_memory.specs.Reading.{AllDue}

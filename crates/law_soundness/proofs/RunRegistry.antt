@@ -9,7 +9,7 @@ use Rattle.std.specs.Str.{bytes_eq}
 use Rattle.jc_words.specs.Layout.{most_applets}
 use Rattle.jc_heap.specs.Heap.{IsObject, cells, facts, heap_item_at}
 use Rattle.jc_heap.specs.Object.{is_object}
-use Rattle.jc_memory.specs.declared.registers.AppletNumber.{AppletNumber}
+use Rattle.jc_transient.specs.declared.owner.AppletNumber.{AppletNumber}
 use Rattle.jc_memory.specs.State.{MemoryState}
 use Rattle.jc_memory.specs.Cells.{word_at, word_in, words_at}
 use Rattle.jc_linker.specs.Classes.{is_class, size_of}

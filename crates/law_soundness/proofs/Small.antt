@@ -10,7 +10,7 @@ use Rattle.jc_heap.specs.declared.refusal.HeapRefusal.{HeapRefusal}
 use Rattle.jc_heap.specs.declared.refusal.HeapRefusal.TheVariants.{NoTransientSpace}
 use Rattle.jc_heap.specs.Heap.{LacksCells, area_end, area_limit, facts}
 use Rattle.jc_memory.specs.declared.making.NewObject.{NewObject}
-use Rattle.jc_memory.specs.Owners.{owner_number}
+use Rattle.jc_transient.specs.Owners.{owner_number}
 use Rattle.jc_memory.specs.State.{MemoryState}
 use Rattle.jc_memory.specs.Making.{creation_refusal, creation_refusal_in}
 use Rattle.jc_linker.specs.Classes.{is_class, reference_cell, is_a}

@@ -3,7 +3,7 @@ use Rattle.std.proofs.Common.{◌≡◌, true, List, [], ◌∷◌, Result, Ok, 
 use Rattle.jc_frames.specs.declared.outcome.FrameExit.{FrameExit}
 use Rattle.jc_frames.specs.declared.outcome.FrameExit.TheVariants.{Throw, End}
 use Rattle.jc_frames.specs.Frames.{Caller}
-use Rattle.jc_memory.specs.Owners.{owner_number}
+use Rattle.jc_transient.specs.Owners.{owner_number}
 use Rattle.jc_memory.specs.State.{MemoryState, apply_effect}
 use Rattle.jc_memory.specs.Programs.{Finish, Perform, Choose, Either}
 use Rattle.jc_memory.specs.Reading.{AllDue, AllResults}

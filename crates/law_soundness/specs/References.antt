@@ -6,7 +6,7 @@ use Rattle.jc_heap.specs.WholeHeap.{IsReference}
 use Rattle.jc_frames.specs.declared.outcome.Outcome.{Outcome}
 use Rattle.jc_frames.specs.Frames.{Frames, Ends}
 use Rattle.jc_memory.specs.Cells.{word_at}
-use Rattle.jc_memory.specs.Owners.{owner_number}
+use Rattle.jc_transient.specs.Owners.{owner_number}
 use Rattle.jc_memory.specs.Reading.{HasTrace}
 use Rattle.jc_memory.specs.State.{MemoryState, Effect, apply_effects}
 use Rattle.jc_linker.specs.Classes.{reference_cell}

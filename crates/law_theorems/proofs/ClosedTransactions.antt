@@ -8,10 +8,10 @@ use Rattle.jc_heap.specs.declared.refusal.HeapRefusal.{HeapRefusal}
 use Rattle.jc_heap.specs.Moves.{Begin, refusal_of_package}
 use Rattle.jc_heap.specs.Completions.{Attempt, Done, Refused}
 use Rattle.jc_frames.specs.declared.cell.Cell.TheVariants.{Short, Reference}
-use Rattle.jc_memory.specs.declared.registers.AppletNumber.{AppletNumber}
+use Rattle.jc_transient.specs.declared.owner.AppletNumber.{AppletNumber}
 use Rattle.jc_memory.specs.declared.registers.Installation.TheVariants.{Open}
-use Rattle.jc_memory.specs.declared.registers.Owner.TheVariants.{Applet}
-use Rattle.jc_memory.specs.declared.registers.PackageNumber.{PackageNumber}
+use Rattle.jc_transient.specs.declared.owner.Owner.TheVariants.{Applet}
+use Rattle.jc_transient.specs.declared.owner.PackageNumber.{PackageNumber}
 use Rattle.jc_memory.specs.State.{MemoryState, Effect, HeapMove, SetRegisters, BeginCommand, apply_effect}
 use Rattle.jc_memory.specs.Programs.{Program, Finish, Perform, bind, unless_refused}
 use Rattle.jc_memory.specs.Reading.{AllResults}

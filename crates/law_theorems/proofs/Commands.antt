@@ -8,7 +8,7 @@ use Rattle.std.proofs.lemmas.Bool.{and_from, cases_lt, eqb-true, le-leb, leb-tru
 use Rattle.std.proofs.lemmas.List.Elements.{All-get_or}
 use Rattle.std.proofs.lemmas.Option.{none-some, same_Some}
 use Rattle.jc_heap.specs.Heap.{HeapState}
-use Rattle.jc_memory.specs.declared.registers.AppletNumber.{AppletNumber}
+use Rattle.jc_transient.specs.declared.owner.AppletNumber.{AppletNumber}
 use Rattle.jc_memory.specs.State.{MemoryState, BeginCommand, apply_effect}
 use Rattle.jc_memory.specs.Programs.{Program, Finish, Completes, TearLeaves}
 use Rattle.jc_memory.proofs.ProgramLemmas.{due_keeps, due_left, each_did}

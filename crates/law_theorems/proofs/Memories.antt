@@ -13,7 +13,7 @@ use Rattle.jc_heap.proofs.Changing.{shape-same}
 use Rattle.jc_heap.proofs.NewPackages.{top-package}
 use Rattle.jc_memory.specs.declared.registers.Installation.{Installation}
 use Rattle.jc_memory.specs.declared.registers.Installation.TheVariants.{Idle, Open, Registered}
-use Rattle.jc_memory.specs.Owners.{owner_number}
+use Rattle.jc_transient.specs.Owners.{owner_number}
 use Rattle.jc_memory.specs.State.{HeapMove, MemoryState, apply_effect}
 use Rattle.jc_linker.specs.Values.{Packages}
 use Rattle.jc_linker.specs.Values.{LinkerComponents}

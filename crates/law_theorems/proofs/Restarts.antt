@@ -10,7 +10,7 @@ use Rattle.jc_transient.specs.declared.cell.ClearEvent.TheVariants.{Reset, Desel
 use Rattle.jc_transient.specs.State.{RamState, IsCleared, cell_at, flag_count}
 use Rattle.jc_heap.specs.Heap.{HeapState, area_sizes, heap_at_rest, facts}
 use Rattle.jc_memory.specs.Cells.{word_of, word_in}
-use Rattle.jc_memory.specs.Owners.{at_reset}
+use Rattle.jc_memory.specs.Registers.{at_reset}
 use Rattle.jc_linker.specs.Values.{Packages}
 use Rattle.jc_platform.specs.Tokens.{Tokens}
 use Rattle.jc_interp.specs.Attacks.{undisturbed}

@@ -9,7 +9,7 @@ use Rattle.jc_transient.specs.State.{IsCleared}
 use Rattle.jc_heap.specs.Heap.{HeapState, area_sizes, heap_at_rest}
 use Rattle.jc_heap.specs.HeapLaws.{AreConsistent}
 use Rattle.jc_heap.proofs.Changing.{shape-same}
-use Rattle.jc_memory.specs.Owners.{at_reset}
+use Rattle.jc_memory.specs.Registers.{at_reset}
 use Rattle.jc_memory.specs.State.{MemoryState}
 use Rattle.jc_memory.specs.Programs.{Program, Completes, TearLeaves}
 use Rattle.jc_linker.specs.Values.{Packages}

@@ -3,7 +3,7 @@ use Rattle.std.specs.Prelude.{ℕ, List, Option, Some, None}
 use Rattle.jc_heap.specs.declared.object.Kind.TheVariants.{Instance}
 use Rattle.jc_memory.specs.CommitCapacity.{has_space, lacks_capacity}
 use Rattle.jc_memory.specs.State.{MemoryState}
-use Rattle.jc_memory.specs.declared.registers.PackageNumber.{PackageNumber}
+use Rattle.jc_transient.specs.declared.owner.PackageNumber.{PackageNumber}
 use Rattle.jc_api.proofs.Exits.{FaultsOnly, plain_if}
 use Rattle.jc_api_framework.specs.Applet.Register.{aid_cells, touched_by_registration, unless_full, is_inside, may_be_added, registration_package_in}
 use Rattle.jc_api_framework.specs.Applet.Register.{installation_in_transaction, registration_package}

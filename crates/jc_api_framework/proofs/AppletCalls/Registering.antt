@@ -13,7 +13,7 @@ use Rattle.jc_memory.specs.Cells.{header_at}
 use Rattle.jc_memory.specs.State.{MemoryState, HeapMove, apply_effect, Effect, SetRegisters, IsNew}
 use Rattle.jc_memory.specs.declared.registers.Installation.{Installation}
 use Rattle.jc_memory.specs.declared.registers.Installation.TheVariants.{Idle, Open, Registered}
-use Rattle.jc_memory.specs.declared.registers.PackageNumber.{PackageNumber}
+use Rattle.jc_transient.specs.declared.owner.PackageNumber.{PackageNumber}
 use Rattle.jc_environment.specs.Registry.{applet_with_aid}
 use Rattle.jc_platform.specs.NamePlaces.{class_word}
 use Rattle.jc_platform.specs.declared.names.PlatformClass.TheVariants.{Aid}

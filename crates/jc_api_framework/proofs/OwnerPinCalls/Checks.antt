@@ -4,7 +4,7 @@ use Rattle.jc_heap.specs.Heap.{facts}
 use Rattle.jc_heap.specs.declared.object.Facts.{Facts}
 use Rattle.jc_firewall.specs.Situation.{same_context}
 use Rattle.jc_memory.specs.Cells.{header_at}
-use Rattle.jc_memory.specs.Owners.{owner_of}
+use Rattle.jc_transient.specs.Owners.{owner_of}
 use Rattle.jc_memory.specs.State.{MemoryState}
 use Rattle.jc_environment.specs.Pins.{record_of}
 use Rattle.jc_world.specs.Contexts.{context_of}

@@ -9,7 +9,7 @@ use Rattle.jc_heap.specs.declared.object.Kind.TheVariants.{Instance}
 use Rattle.jc_memory.specs.Cells.{header_at, cells_refusal}
 use Rattle.jc_memory.specs.Making.{creation_refusal}
 use Rattle.jc_memory.specs.State.{MemoryState, Effect}
-use Rattle.jc_memory.specs.declared.registers.AppletNumber.{AppletNumber}
+use Rattle.jc_transient.specs.declared.owner.AppletNumber.{AppletNumber}
 use Rattle.jc_environment.specs.Aid.{aid_at}
 use Rattle.jc_environment.specs.Registry.{applet_with_aid, instance_of_applet}
 use Rattle.jc_platform.specs.NamePlaces.{class_word}

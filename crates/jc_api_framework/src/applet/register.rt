@@ -18,11 +18,11 @@ use jc_environment::AID_CELLS;
 use jc_heap::{AppletEntry, Kind};
 use jc_linker::linked::Linked;
 use jc_memory::{
-    Installation, Memory, NewObject, Owner, PackageNumber, Registers, make_within_capacity,
-    register_within_capacity, set_within_capacity,
+    Installation, Memory, NewObject, Registers, make_within_capacity, register_within_capacity,
+    set_within_capacity,
 };
 use jc_platform::names::PlatformClass;
-use jc_transient::Ref;
+use jc_transient::{Owner, PackageNumber, Ref};
 use jc_words::{StoreDown, WordStore};
 use jc_world::{NativeResult, StepExit};
 

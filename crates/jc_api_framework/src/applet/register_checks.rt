@@ -12,8 +12,8 @@ use jc_frames::FrameExit;
 use jc_frames::reasons::{BUFFER_FULL, ILLEGAL_AID, IN_PROGRESS, NO_RESOURCE};
 use jc_heap::registry_layout::{ENTRY_INSTANCE, ENTRY_PACKAGE, entry_start};
 use jc_heap::{Kind, Place, Touch};
-use jc_memory::{Depth, Installation, Memory, PackageNumber, has_space, lacks_capacity};
-use jc_transient::{OwnerWord, Ref};
+use jc_memory::{Depth, Installation, Memory, has_space, lacks_capacity};
+use jc_transient::{OwnerWord, PackageNumber, Ref};
 use jc_words::WordStore;
 use jc_words::layout::MOST_APPLETS;
 

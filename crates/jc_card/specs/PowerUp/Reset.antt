@@ -7,7 +7,7 @@ use Rattle.jc_platform.specs.Tokens.{Tokens}
 use Rattle.jc_platform.specs.Table.{Reads}
 use Rattle.jc_packages.specs.Reading.{packages_of}
 use Rattle.jc_memory.specs.Cells.{word_at}
-use Rattle.jc_memory.specs.Owners.{at_reset}
+use Rattle.jc_memory.specs.Registers.{at_reset}
 use Rattle.jc_memory.specs.State.{MemoryState}
 use Rattle.jc_card.specs.Card.{CardState}
 use Rattle.jc_card.specs.Fixed.{fixed_of}

@@ -1,6 +1,6 @@
 -- Selecting, installing and answering leave a memory sound, as between two commands.
 use Rattle.std.specs.Prelude.{ℕ, ◌≡◌, ◌⊎◌, Bool, true, false, List}
-use Rattle.jc_memory.specs.declared.registers.AppletNumber.{AppletNumber}
+use Rattle.jc_transient.specs.declared.owner.AppletNumber.{AppletNumber}
 use Rattle.jc_memory.specs.declared.registers.Registers.{Registers}
 use Rattle.jc_memory.specs.State.{MemoryState, Effect, SetRegisters, apply_effect}
 use Rattle.jc_memory.specs.Programs.{Program}

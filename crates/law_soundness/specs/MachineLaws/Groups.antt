@@ -4,7 +4,7 @@ use Rattle.jc_frames.specs.declared.instr.ArrayOp.{ArrayOp}
 use Rattle.jc_frames.specs.declared.instr.FieldOp.{FieldOp}
 use Rattle.jc_frames.specs.declared.instr.TestedType.{TestedType}
 use Rattle.jc_frames.specs.Frames.{Frames}
-use Rattle.jc_memory.specs.Owners.{owner_number}
+use Rattle.jc_transient.specs.Owners.{owner_number}
 use Rattle.jc_memory.specs.State.{MemoryState}
 use Rattle.jc_memory.specs.Reading.{AllDue}
 use Rattle.jc_linker.specs.Values.{Packages}

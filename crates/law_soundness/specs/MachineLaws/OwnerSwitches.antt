@@ -2,10 +2,10 @@
 use Rattle.std.specs.Prelude.{ℕ, ◌≡◌, ◌⊎◌, List, ◌∷◌, ◌++◌, map, Some, Ok}
 use Rattle.jc_heap.specs.declared.object.Facts.{Facts}
 use Rattle.jc_heap.specs.Moves.{AddPackage}
-use Rattle.jc_memory.specs.declared.registers.Owner.{Owner}
-use Rattle.jc_memory.specs.declared.registers.Owner.TheVariants.{Applet}
+use Rattle.jc_transient.specs.declared.owner.Owner.{Owner}
+use Rattle.jc_transient.specs.declared.owner.Owner.TheVariants.{Applet}
 use Rattle.jc_memory.specs.declared.registers.Registers.{Registers}
-use Rattle.jc_memory.specs.Owners.{owner_of}
+use Rattle.jc_transient.specs.Owners.{owner_of}
 use Rattle.jc_memory.specs.Reading.{AllDue, AllResults, HasTrace}
 use Rattle.jc_memory.specs.State.{MemoryState, Effect, HeapMove, ClearTransient, SetRegisters, BeginCommand, apply_effects}
 use Rattle.jc_platform.specs.declared.names.PlatformMethod.{PlatformMethod}

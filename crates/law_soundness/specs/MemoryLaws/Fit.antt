@@ -17,9 +17,9 @@ use Rattle.jc_heap.specs.Heap.{HeapState, LacksCells, cells, facts}
 use Rattle.jc_heap.specs.Moves.{Move, Write, SetPlaces, WriteNonAtomic, SetCells, AddObject, AddTransient, AddPackage, Begin, Commit, Abort, new_move}
 use Rattle.jc_heap.specs.Place.{applet_changes}
 use Rattle.jc_heap.specs.Statics.{statics_of, IsStatic}
-use Rattle.jc_memory.specs.declared.registers.AppletNumber.{AppletNumber}
+use Rattle.jc_transient.specs.declared.owner.AppletNumber.{AppletNumber}
 use Rattle.jc_memory.specs.declared.registers.Registers.{Registers}
-use Rattle.jc_memory.specs.Owners.{owner_number}
+use Rattle.jc_transient.specs.Owners.{owner_number}
 use Rattle.jc_memory.specs.State.{MemoryState, Effect, HeapMove, SetTransient, SetFlag, ClearTransient, SetRegisters, BeginCommand, SendBytes}
 use Rattle.jc_memory.specs.State.{apply_effect}
 use Rattle.jc_linker.specs.Classes.{reference_cell, is_a}

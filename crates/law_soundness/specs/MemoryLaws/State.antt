@@ -11,11 +11,12 @@ use Rattle.jc_heap.specs.declared.object.Kind.TheVariants.{ReferenceArray}
 use Rattle.jc_heap.specs.Heap.{HeapState, IsObject, area_sizes, cells, facts}
 use Rattle.jc_heap.specs.HeapLaws.{AreConsistent}
 use Rattle.jc_heap.specs.WholeHeap.{IsReference}
-use Rattle.jc_memory.specs.declared.registers.AppletNumber.{AppletNumber}
+use Rattle.jc_transient.specs.declared.owner.AppletNumber.{AppletNumber}
 use Rattle.jc_memory.specs.declared.registers.Installation.{Installation}
 use Rattle.jc_memory.specs.declared.registers.Installation.TheVariants.{Idle, Open, Registered}
 use Rattle.jc_memory.specs.declared.registers.Registers.{Registers}
-use Rattle.jc_memory.specs.Owners.{at_reset, owner_number}
+use Rattle.jc_transient.specs.Owners.{owner_number}
+use Rattle.jc_memory.specs.Registers.{at_reset}
 use Rattle.jc_memory.specs.State.{MemoryState}
 use Rattle.jc_linker.specs.Values.{Packages}
 use Rattle.jc_linker.specs.Lookups.{statics_at}
