@@ -26,10 +26,10 @@ pub fn handler_at(text: &[u8], at: usize) -> Option<Handler>
     requires { at < 2 ^ 16 }
     ensures { result ≡ handler_in text.now at }
 {
+    let catch_type = u2_at(text, at + 6)?; // the last first, so that the others need no test
     let start = u2_at(text, at)?;
     let active = u2_at(text, at + 2)?;
     let target = u2_at(text, at + 4)?;
-    let catch_type = u2_at(text, at + 6)?;
     Some(Handler {
         start,
         length: active % 32768,

@@ -204,60 +204,10 @@ const fn is_global(facts: Facts) -> bool
     facts.owner().0 == 0 && !is_cleared
 }
 
-// The element with an index of an array with this header, as it comes on the stack, where the array is persistent and belongs to the owner for whom
-// code runs.
+// The element with an index of the array that a reference names, as it comes on the stack, where the array belongs to the owner for whom code runs, or is
+// one of the runtime environment's.
 #[inline(always)]
 #[tactic(auto, unfolding(crate::specs::ArrayAccess::element_read, crate::specs::ArrayElements::element_at, crate::specs::ArrayElements::array_at))]
-fn persistent_element<S: WordStore>(
-    of_type: ValueType,
-    header: Facts,
-    reference: Ref,
-    index: i16,
-    memory: &Memory<S>,
-) -> Option<Cell>
-    requires up { memory.now.heap.down ≡ false }
-    requires there { IsObject memory.now.heap.now reference }
-    requires header { IsHeaderOf memory.now reference header }
-    requires known { object_at memory.now reference ≡ Ok header }
-    ensures { IfSome result (λ value. (p : Packages)
-        → IsReadOfElement of_type reference index p memory.now value) }
-{
-    if header.event.is_some() || !has_elements(of_type, header.kind) || !is_own(header, memory) {
-        return None;
-    }
-    let element = with_index(header, index).ok()?;
-    Some(known_value(of_type, header, memory, reference, element.index))
-}
-
-// The same of a transient array of numbers, which belongs to that owner or to the runtime environment.
-#[inline(always)]
-#[tactic(auto, unfolding(crate::specs::ArrayAccess::element_read, crate::specs::ArrayElements::element_at, crate::specs::ArrayElements::array_at))]
-fn transient_element<S: WordStore>(
-    of_type: ValueType,
-    header: Facts,
-    reference: Ref,
-    index: i16,
-    memory: &Memory<S>,
-) -> Option<Cell>
-    requires up { memory.now.heap.down ≡ false }
-    requires there { IsObject memory.now.heap.now reference }
-    requires header { IsHeaderOf memory.now reference header }
-    requires known { object_at memory.now reference ≡ Ok header }
-    ensures { IfSome result (λ value. (p : Packages)
-        → IsReadOfElement of_type reference index p memory.now value) }
-{
-    if of_type == ValueType::Reference || !has_elements(of_type, header.kind) {
-        return None;
-    }
-    if !is_own(header, memory) && !is_global(header) {
-        return None;
-    }
-    let element = with_index(header, index).ok()?;
-    Some(known_value(of_type, header, memory, reference, element.index))
-}
-
-// The element with an index of the array that a reference names, where the array is one of these.
-#[inline(always)]
 fn known_element<S: WordStore>(
     of_type: ValueType,
     reference: Ref,
@@ -272,10 +222,14 @@ fn known_element<S: WordStore>(
         return None;
     }
     let header = memory.facts(reference);
-    match header.event {
-        None => persistent_element(of_type, header, reference, index, memory),
-        Some(_) => transient_element(of_type, header, reference, index, memory),
+    if !has_elements(of_type, header.kind) {
+        return None;
     }
+    if !is_own(header, memory) && !is_global(header) {
+        return None;
+    }
+    let element = with_index(header, index).ok()?;
+    Some(known_value(of_type, header, memory, reference, element.index))
 }
 
 // Carries out an instruction that reads an element of this type, if the array is one of these; says whether it did.

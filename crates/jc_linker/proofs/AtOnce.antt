@@ -1,13 +1,13 @@
 -- Methods that a loaded class, or the class right above it, has.
 use Rattle.std.proofs.Common.{◌≡◌, ◌∙◌, ℕ, suc, ◌-◌, ◌/◌, ◌==◌, true, false, Option, None, Some, if◌then◌else◌, refl, arith}
-use Rattle.std.specs.Prelude.{nat_lt, slice_get}
+use Rattle.std.specs.Prelude.{find, nat_lt, slice_get}
 use Rattle.std.proofs.lemmas.Bool.{or_right}
 use Rattle.jc_cap.specs.declared.pool.VirtualToken.TheVariants.{Public}
 use Rattle.jc_linker.specs.declared.target.Method.{Method}
 use Rattle.jc_linker.specs.declared.target.Method.TheVariants.{Code}
 use Rattle.jc_linker.specs.declared.search.Search.TheVariants.{Found, Above}
-use Rattle.jc_linker.specs.Classes.{class_in, lineage_from, superclass_in}
-use Rattle.jc_linker.specs.Methods.{by_offset, first_decided, in_table, inherits_method, is_silent, leads_to, method_at, method_in}
+use Rattle.jc_linker.specs.Classes.{class_in, lineage, lineage_from, superclass_in}
+use Rattle.jc_linker.specs.Methods.{by_offset, first_decided, implementation_in, in_list, in_table, inherits_method, is_silent, leads_to, method_at, method_in}
 use Rattle.jc_linker.specs.Values.{ClassValue, MethodTable, Packages}
 
 -- a number is itself
@@ -44,6 +44,18 @@ pub own_found : (p : Packages) (class token : ℕ) (c : ClassValue) → class_in
     → in_table (class / 256) c.public_methods token ≡ Found method → method_at p class package_number (Public token) ≡ Some method
 unfolding method_at
 own_found p class token c here package_number method found = first_found p class token c here 8703 method found
+
+-- a walk from the class on, which itself carries out the interface
+first_implements : (p : Packages) (class interface token n own : ℕ) (c : ClassValue) → class_in p class ≡ Some c
+    → in_list token (find (λ i. i.interface == interface) c.interfaces) ≡ Found own
+    → first_decided (implementation_in p interface token) (lineage_from p (suc n) (Some class)) ≡ Some own
+unfolding first_decided lineage_from implementation_in
+first_implements p class interface token n own c here found = rw here (rw found refl)
+
+pub implemented_at_once : (p : Packages) (class interface token : ℕ) (c : ClassValue) → class_in p class ≡ Some c → (own : ℕ)
+    → in_list token (find (λ i. i.interface == interface) c.interfaces) ≡ Found own
+    → first_decided (implementation_in p interface token) (lineage p class) ≡ Some own
+implemented_at_once p class interface token c here own found = first_implements p class interface token 8703 own c here found
 
 pub inherited_at_once : (p : Packages) (own class token : ℕ) (c : ClassValue) → class_in p own ≡ Some c → c.is_interface ≡ false → c.superclass ≡ class
     → is_silent (in_table 0 c.public_methods token) ≡ true → inherits_method p own class token ≡ true

@@ -1,8 +1,8 @@
 //! The packages of a card.
 ghost use Rattle.std.specs.Prelude.{ℕ, ◌≡◌, ◌<◌, ◌≤◌, ◌++◌, [], ◌∷◌, Some, true, length, slice_get, IfOk, IfSome, option_copied};
-ghost use Rattle.jc_linker.specs.Classes.{class_in, is_below, is_class, is_instantiable_class, is_shareable, package_in, reference_cell, size_of, superclass_in};
+ghost use Rattle.jc_linker.specs.Classes.{class_in, is_below, is_class, is_instantiable_class, is_shareable, lineage, package_in, reference_cell, size_of, superclass_in};
 ghost use Rattle.jc_linker.specs.Linking.{with_package};
-ghost use Rattle.jc_linker.specs.Methods.{inherits_method, interface_method_at, method_at, method_below};
+ghost use Rattle.jc_linker.specs.Methods.{first_decided, implementation_in, inherits_method, interface_method_at, method_at, method_below};
 ghost use Rattle.jc_linker.specs.Resolve.{names_interface};
 
 use crate::class::LinkedClass;
@@ -257,6 +257,7 @@ impl Linked {
 
     /// The method that a call of an interface's method by token on an instance of a class runs. It takes time that
     /// grows with the number of classes above.
+    #[tactic(auto, unfolding(crate::specs::Methods::interface_method_at))]
     pub fn interface_method_at(
         &self,
         class: ClassWord,
@@ -265,6 +266,23 @@ impl Linked {
     ) -> Option<Method>
         ensures { result ≡ interface_method_at self.now class interface token }
     {
-        self.scope().interface_method_at(class, interface, token)
+        match self.own_implementation(class, interface, token) {
+            Some(own) => self.method_at(class, 0, VirtualToken::Public(own)),
+            None => self.scope().interface_method_at(class, interface, token),
+        }
+    }
+
+    // The token of the virtual method by which a loaded class itself carries out a method of an interface.
+    #[tactic(auto, using(crate::proofs::AtOnce::implemented_at_once))]
+    #[inline(always)]
+    fn own_implementation(&self, class: ClassWord, interface: ClassWord, token: u8) -> Option<u8>
+        ensures { IfSome result (λ own. first_decided (implementation_in self.now interface token)
+            (lineage self.now class) ≡ Some own) }
+    {
+        let loaded = self.loaded_class(class)?;
+        match loaded.implementing_token(interface, token) {
+            Search::Found(own) => Some(own),
+            Search::Above | Search::Nowhere => None,
+        }
     }
 }
