@@ -1,9 +1,12 @@
-//! Laws of soundness: no effect, instruction, call, run or command leaves a heap that does not fit the packages that are linked.
+//! Laws of soundness: no effect, instruction, call, run or command leaves a heap that does not fit the packages that are linked,
+//! and packages that are read are linked.
 #![tactic(auto)]
 
+mod growth_laws;
 mod machine_laws;
 mod memory_laws;
 
+pub use growth_laws::{package_records_are_of_words, packages_that_were_read_are_linked};
 pub use machine_laws::{
     commands_keep_memories_sound, effects_of_array_instructions_fit_packages,
     effects_of_calls_fit_packages, effects_of_commands_keep_memories_sound,

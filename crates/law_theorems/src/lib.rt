@@ -3,12 +3,10 @@
 #![tactic(auto)]
 
 mod card_laws;
-mod growth_laws;
 mod script_laws;
 mod session_theorems;
 
 pub use card_laws::sessions_leave_images_that_power_up_again;
-pub use growth_laws::{package_records_are_of_words, packages_that_were_read_are_linked};
 pub use script_laws::scripts_are_sessions;
 pub use session_theorems::{
     a_cut_leaves_the_changes_before_it, commands_are_the_environments_and_runs_of_code,
