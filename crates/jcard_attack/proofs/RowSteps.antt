@@ -1,7 +1,7 @@
 -- Steps of the rows.
 use Rattle.std.proofs.Common.{◌≡◌, ◌∙◌, ℕ, ◌+◌, ◌<◌, ◌≤◌, ◌++◌, ◌∷◌, true, false, if◌then◌else◌, List, [], length, get_or, drop, map, Option, Some, None, ap, refl, sym, append_assoc, append-nil}
 use Rattle.std.proofs.lemmas.List.{drop_all, get_or_default}
-use Rattle.jcard_outcomes.proofs.Items.{drop_at}
+use Rattle.jcard_texts.proofs.Items.{drop_at}
 use Rattle.jcard_attack.specs.Report.{FaultRow, FaultTold, is_alike, longer_row, new_row, open_text, row_text, rows_after, rows_text}
 
 -- a text and what rows still say, whatever faults follow

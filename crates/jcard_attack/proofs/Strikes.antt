@@ -1,7 +1,7 @@
 -- Faults from one on.
 use Rattle.std.proofs.Common.{◌≡◌, ◌∙◌, ℕ, ◌+◌, ◌<◌, ◌≤◌, true, false, if◌then◌else◌, List, length, get_or, drop, ap, Some, None}
 use Rattle.std.proofs.lemmas.List.{drop_all}
-use Rattle.jcard_outcomes.proofs.Items.{drop_at}
+use Rattle.jcard_texts.proofs.Items.{drop_at}
 use Rattle.jcard_attack.specs.Report.{count_of, first_of, is_outcome}
 use Rattle.jcard_attack.specs.declared.outcomes.Outcome.{Outcome}
 use Rattle.jcard_attack.specs.declared.outcomes.Struck.{Struck}

@@ -1,7 +1,7 @@
 -- Steps of the verdicts of all commands.
 use Rattle.std.proofs.Common.{◌≡◌, ◌∙◌, Bool, ℕ, ◌+◌, ◌<◌, ◌≤◌, ◌++◌, List, length, get_or, drop, ap, sym, append_assoc, append-nil}
 use Rattle.std.proofs.lemmas.List.{drop_all}
-use Rattle.jcard_outcomes.proofs.Items.{drop_at}
+use Rattle.jcard_texts.proofs.Items.{drop_at}
 use Rattle.jcard_attack.specs.Each.{line_text, verdicts_text}
 use Rattle.jcard_attack.specs.declared.each.LineAttack.{LineAttack}
 

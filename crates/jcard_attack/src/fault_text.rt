@@ -7,7 +7,8 @@ ghost use Rattle.jcard_attack.specs.Report.{is_undisturbed};
 use crate::outcomes::{Outcome, Struck};
 use jc_card::planned_fault::SecondFault;
 use jc_interp::attacks::FaultModel;
-use jcard_outcomes::rows::{push_in_line, push_number, push_standing};
+use jcard_outcomes::rows::{push_in_line, push_standing};
+use jcard_texts::numbers::push_number;
 use std::alloc::{AllocError, Global};
 
 /// A fault in words: its model, the number of its instruction, the second fault where there is one, what came of it, and what is reported of

@@ -7,9 +7,10 @@ use crate::image_sweep::behind_of;
 use crate::sweep::Sought;
 use crate::target_attacks::Attacking;
 use jcard_outcomes::models::Models;
-use jcard_outcomes::rows::{is_same, push_number};
+use jcard_outcomes::rows::is_same;
 use jcard_sweeps::names::commands_name;
 use jcard_sweeps::script_lines::ScriptLine;
+use jcard_texts::numbers::push_number;
 use std::alloc::{AllocError, Global};
 
 // How many digits the checksum has with which a name begins.

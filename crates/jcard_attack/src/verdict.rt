@@ -7,8 +7,8 @@ ghost use Rattle.jcard_attack.specs.declared.outcomes.Outcome.TheVariants.{Accep
 use crate::fault_text::{model_name, second_text};
 use crate::outcomes::{Outcome, Struck};
 use jc_card::planned_fault::PlannedFault;
-use jcard_outcomes::rows::push_number;
 use jcard_outcomes::verdict::push_either;
+use jcard_texts::numbers::push_number;
 use std::alloc::{AllocError, Global};
 
 /// Whether a fault was accepted.

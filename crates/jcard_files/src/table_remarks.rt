@@ -596,13 +596,13 @@ impl Walk {
 
 fn remark_on_line(alloc: Global, line: u32, cause: LineCause) -> Result<Vec<u8>, AllocError> {
     let mut text = Vec::from_slice(alloc, b"jcard: table line ")?;
-    push_number(&mut text, u64::from(line))?;
+    push_number(&mut text, line as usize)?;
     text.extend_from_slice(b", column ")?;
-    push_number(&mut text, cause.column as u64)?;
+    push_number(&mut text, cause.column)?;
     text.extend_from_slice(b": ")?;
     text.extend_from_slice(cause.why)?;
     if cause.other_line > 0 {
-        push_number(&mut text, u64::from(cause.other_line))?;
+        push_number(&mut text, cause.other_line as usize)?;
     }
     text.extend_from_slice(b"\n")?;
     Ok(text)
@@ -617,7 +617,7 @@ fn remark_on_packed(alloc: Global, table: &[u8], entry: u16) -> Result<Vec<u8>, 
         return Vec::from_slice(alloc, b"jcard: the packed table lacks a name\n");
     }
     let mut text = Vec::from_slice(alloc, b"jcard: entry ")?;
-    push_number(&mut text, u64::from(entry))?;
+    push_number(&mut text, usize::from(entry))?;
     text.extend_from_slice(b" of the packed table is none that can stand there\n")?;
     Ok(text)
 }

@@ -3,7 +3,7 @@ use Rattle.std.proofs.Common.{◌≡◌, ◌∙◌, ℕ, ◌+◌, ◌<◌, ◌�
 use Rattle.std.proofs.lemmas.List.{drop_all}
 use Rattle.jcard_outcomes.specs.Report.{any_but_tries, broken_by_calls, count_before, first_broken, is_after, is_before, is_but_tries, is_by_calls}
 use Rattle.jcard_outcomes.specs.declared.standing.Cut.{Cut}
-use Rattle.jcard_outcomes.proofs.Items.{drop_at}
+use Rattle.jcard_texts.proofs.Items.{drop_at}
 
 -- a cut that left what was before counts
 pub count_one : (cuts : List Cut) (i : ℕ) (c : Cut) → i < length cuts → c ≡ get_or cuts i c → is_before c.standing ≡ true

@@ -4,7 +4,7 @@ use Rattle.std.proofs.lemmas.List.{drop_all}
 use Rattle.jcard_outcomes.specs.Recoveries.{difference_or, first_difference, ways_from}
 use Rattle.jcard_outcomes.specs.Report.{most_lost_from}
 use Rattle.jcard_outcomes.specs.declared.standing.Cut.{Cut}
-use Rattle.jcard_outcomes.proofs.Items.{drop_at}
+use Rattle.jcard_texts.proofs.Items.{drop_at}
 
 -- after this cut a recovery made a difference
 pub difference_found : (cuts : List Cut) (k i n : ℕ) (c : Cut) → i < length cuts → c ≡ get_or cuts i c → c.recoveries.difference ≡ Some n

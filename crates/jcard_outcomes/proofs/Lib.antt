@@ -1,4 +1,3 @@
-pub mod Items
 pub mod Counts
 pub mod RowSteps
 pub mod Verdicts
@@ -21,3 +20,6 @@ pub mod JoinEnds
 pub mod ShareLists
 pub mod PartHeads
 pub mod Blocks
+pub mod AnswerFit
+pub mod Comparisons
+pub mod RowReports

@@ -4,7 +4,7 @@ use Rattle.std.proofs.Math.Nat.{mul-le-mul_left, mul-suc}
 use Rattle.std.proofs.lemmas.List.{drop_all}
 use Rattle.jcard_outcomes.specs.Part.{line_text, lines_text, told_cut}
 use Rattle.jcard_outcomes.specs.declared.standing.Cut.{Cut}
-use Rattle.jcard_outcomes.proofs.Items.{drop_at}
+use Rattle.jcard_texts.proofs.Items.{drop_at}
 
 -- the number of the next line
 pub number_next : (first step i number : ℕ) → number ≡ first + step * i → number + step ≡ first + step * (i + 1)

@@ -5,7 +5,7 @@ use Rattle.std.proofs.lemmas.List.{drop_all}
 use Rattle.std.specs.Str.{bytes_eq}
 use Rattle.jcard_outcomes.specs.Report.{outcome_text, row_text, rows_from}
 use Rattle.jcard_outcomes.specs.declared.standing.Cut.{Cut}
-use Rattle.jcard_outcomes.proofs.Items.{drop_at}
+use Rattle.jcard_texts.proofs.Items.{drop_at}
 
 -- a cut that left the same is one more of its row
 pub rows_same : (cuts : List Cut) (i first last : ℕ) (outcome : List ℕ) (c : Cut) → i < length cuts → c ≡ get_or cuts i c

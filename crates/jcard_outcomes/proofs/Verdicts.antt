@@ -3,7 +3,7 @@ use Rattle.std.proofs.Common.{◌≡◌, ◌∙◌, ℕ, ◌+◌, ◌<◌, ◌�
 use Rattle.std.proofs.lemmas.List.{drop_all}
 use Rattle.jcard_outcomes.specs.Report.{line_verdict_text, verdicts_text}
 use Rattle.jcard_outcomes.specs.declared.each.LineSweep.{LineSweep}
-use Rattle.jcard_outcomes.proofs.Items.{drop_at}
+use Rattle.jcard_texts.proofs.Items.{drop_at}
 
 -- the verdict of the next command is reported
 pub verdict_more : (rows : Bool) (sweeps : List LineSweep) (i : ℕ) (s : LineSweep) (text next : List ℕ) → i < length sweeps → s ≡ get_or sweeps i s

@@ -9,3 +9,9 @@ pub mod Join
 pub mod SweepHead
 pub mod CommandShares
 pub mod SweepKind
+pub mod Answers
+pub mod Comparison
+pub mod Failure
+pub mod Junit
+pub mod Row
+pub mod RowReport

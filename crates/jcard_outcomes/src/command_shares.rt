@@ -10,7 +10,7 @@ use crate::join_fault::JoinFault;
 use crate::line::{after, cut_once, word_of};
 use crate::order::in_order;
 use crate::part::{Share, push_head, push_numbered};
-use crate::rows::push_number;
+use jcard_texts::numbers::push_number;
 use std::alloc::{AllocError, Global};
 
 /// The text of a share of the commands of a script: of which sweep it is, which share, whether the cuts of each of its commands were

@@ -5,9 +5,9 @@ ghost use Rattle.jcard_outcomes.specs.Report.{line_verdict_text, swept_text, ver
 
 use crate::recoveries::{Depth, push_recoveries};
 use crate::report::{Sweep, push_told_rows};
-use crate::rows::push_number;
 use crate::standing::Cut;
 use crate::verdict::{is_all_or_nothing, push_verdict};
+use jcard_texts::numbers::push_number;
 use std::alloc::{AllocError, Global};
 
 /// What became of a command of a script.

@@ -6,9 +6,10 @@ ghost use Rattle.jcard_outcomes.specs.declared.part.Share.{Share as AShare};
 use crate::line::{cut_once, word_of};
 use crate::recoveries::Recoveries;
 use crate::report::Sweep;
-use crate::rows::{push_ending, push_in_line, push_number, push_standing, push_words_lost};
+use crate::rows::{push_ending, push_in_line, push_standing, push_words_lost};
 use crate::standing::Cut;
 use itoa::Buffer;
+use jcard_texts::numbers::push_number;
 use std::alloc::{AllocError, Global};
 
 /// A part of a sweep: a command that was cut after `first` writes and each `step`-th number after it, up to the first of these

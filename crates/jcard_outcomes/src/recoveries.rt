@@ -3,10 +3,10 @@ ghost use Rattle.std.specs.Prelude.{◌≡◌, ◌++◌, OnOk};
 ghost use Rattle.jcard_outcomes.specs.Recoveries.{depth_text, different_text, earlier_text, ended_number, first_difference, recoveries_text, same_text};
 ghost use Rattle.jcard_outcomes.specs.Recoveries.{ways_from, ways_text, writes_text};
 
-use crate::rows::push_number;
 use crate::standing::Cut;
 use crate::verdict::push_either;
 use itoa::Buffer;
+use jcard_texts::numbers::push_number;
 use std::alloc::AllocError;
 
 /// How many recoveries are cut, one after the other, before one comes to its end.

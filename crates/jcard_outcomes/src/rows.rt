@@ -5,7 +5,7 @@ ghost use Rattle.jcard_outcomes.specs.Report.{changed_text, ended, in_line, labe
 
 use crate::heaps::Difference;
 use crate::standing::{Cut, Standing};
-use itoa::Buffer;
+use jcard_texts::numbers::push_number;
 use std::alloc::{AllocError, Global};
 
 /// Writes the rows of all cuts after a text.
@@ -117,14 +117,6 @@ pub fn push_numbers(text: &mut Vec<u8>, first: usize, last: usize) -> Result<(),
     }
     text.extend_from_slice(b"..")?;
     push_number(text, last)
-}
-
-/// Writes a number in decimal digits.
-pub fn push_number(text: &mut Vec<u8>, number: usize) -> Result<(), AllocError>
-    ensures { OnOk result (text.new.items ≡ text.old.items ++ decimal number) }
-{
-    let mut digits = Buffer::new();
-    text.extend_from_slice(digits.format(number).as_bytes())
 }
 
 /// Writes answers in one line, each with a space after it.

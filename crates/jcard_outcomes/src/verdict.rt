@@ -4,8 +4,9 @@ ghost use Rattle.jcard_outcomes.specs.Report.{any_but_tries, are_whole, broken_b
 ghost use Rattle.jcard_outcomes.specs.Report.{is_refused, is_refused_at_once, most_lost_from, most_lost_text, no_write_text, shares_text, verdict_text, whole_text};
 
 use crate::recoveries::first_difference;
-use crate::rows::{is_same, push_ending, push_number, push_words_lost};
+use crate::rows::{is_same, push_ending, push_words_lost};
 use crate::standing::{Cut, Standing};
+use jcard_texts::numbers::push_number;
 use std::alloc::{AllocError, Global};
 
 /// Whether each cut left what was before the command or what it leaves where it is not cut, and no recovery made a difference.

@@ -93,7 +93,7 @@ pub(crate) fn is_of_command(byte: u8) -> bool
 pub fn remark_of(alloc: Global, line: u32, fault: LineFault) -> Result<Vec<u8>, AllocError> {
     let mut text = Vec::new(alloc);
     text.extend_from_slice(b"jcard: line ")?;
-    push_number(&mut text, u64::from(line))?;
+    push_number(&mut text, line as usize)?;
     told_fault(&mut text, fault)?;
     Ok(text)
 }
@@ -120,7 +120,7 @@ pub fn told_fault(text: &mut Vec<u8>, fault: LineFault) -> Result<(), AllocError
 
 fn push_column(text: &mut Vec<u8>, column: usize) -> Result<(), AllocError> {
     text.extend_from_slice(b", column ")?;
-    push_number(text, column as u64)?;
+    push_number(text, column)?;
     text.extend_from_slice(b": ")
 }
 

@@ -5,9 +5,9 @@ use Rattle.std.specs.String.{string_bytes}
 use Rattle.std.proofs.lemmas.Bool.{false≢true}
 use Rattle.std.proofs.lemmas.List.{drop_all}
 use Rattle.jcard_test.specs.Cards.{AddsRow, AreCards, IsNewCard, IsRowOfLine, IsSweep}
-use Rattle.jcard_test.specs.declared.card_rows.CardRows.{CardRows}
+use Rattle.jcard_outcomes.specs.declared.card_rows.CardRows.{CardRows}
 use Rattle.jcard_test.specs.declared.numbered_line.Numbered.{Numbered}
-use Rattle.jcard_test.specs.declared.row.Row.{Row}
+use Rattle.jcard_outcomes.specs.declared.row.Row.{Row}
 use Rattle.jcard_texts.proofs.Items.{drop_at}
 
 -- a line says nothing of a sweep

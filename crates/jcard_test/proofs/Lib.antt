@@ -1,11 +1,8 @@
 pub mod CardSteps
-pub mod Comparisons
-pub mod AnswerFit
 pub mod NamedTables
 pub mod Numbering
 pub mod Paths
 pub mod PlannedCards
-pub mod Reports
 pub mod RowSweeps
 pub mod RowTests
 pub mod LineMeanings

@@ -3,9 +3,9 @@ use Rattle.std.proofs.Common.{◌≡◌, ℕ, List, [], ◌∷◌, Result, Ok, E
 use Rattle.std.specs.Prelude.{All, Contains, IfSome, MatchOption, MatchResult}
 use Rattle.std.proofs.lemmas.List.Elements.{Contains-append_right}
 use Rattle.jcard_test.specs.Cards.{AreCardsOf}
-use Rattle.jcard_test.specs.declared.card_rows.CardRows.{CardRows}
+use Rattle.jcard_outcomes.specs.declared.card_rows.CardRows.{CardRows}
 use Rattle.jcard_test.specs.declared.numbered_line.Numbered.{Numbered}
-use Rattle.jcard_test.specs.declared.outcome.Tested.{Tested}
+use Rattle.jcard_outcomes.specs.declared.tested.Tested.{Tested}
 use Rattle.jcard_files.specs.declared.fault.Fault.{Fault}
 use Rattle.jcard_test.specs.Sources.{IsReading, files_named, paths_read}
 use Rattle.jcard_test.specs.Tests.{AreAnswered, IsOutcome, IsPlanFor, IsTested, IsUnanswered, IsUntested, table_of}

@@ -13,16 +13,16 @@ use Rattle.jcard_test.specs.Lines.{Says}
 use Rattle.jcard_test.specs.TextLines.{IsLineOf, IsUnrolled}
 use Rattle.jcard_test.specs.declared.line.Line.{Line}
 use Rattle.jcard_test.specs.declared.line.Line.TheVariants.{Include}
-use Rattle.jcard_test.specs.Outcome.{AllAnswered}
-use Rattle.jcard_test.specs.Row.{script_text}
-use Rattle.jcard_test.specs.declared.card_rows.CardRows.{CardRows}
+use Rattle.jcard_outcomes.specs.Failure.{AllAnswered}
+use Rattle.jcard_outcomes.specs.Row.{script_text}
+use Rattle.jcard_outcomes.specs.declared.card_rows.CardRows.{CardRows}
 use Rattle.jcard_test.specs.declared.numbered_line.Numbered.{Numbered}
-use Rattle.jcard_test.specs.declared.outcome.Failure.{Failure}
-use Rattle.jcard_test.specs.declared.outcome.Outcome.{Outcome}
-use Rattle.jcard_test.specs.declared.outcome.Outcome.TheVariants.{Held, Failed}
-use Rattle.jcard_test.specs.declared.outcome.Tested.{Tested}
+use Rattle.jcard_outcomes.specs.declared.tested.Failure.{Failure}
+use Rattle.jcard_outcomes.specs.declared.tested.Outcome.{Outcome}
+use Rattle.jcard_outcomes.specs.declared.tested.Outcome.TheVariants.{Held, Failed}
+use Rattle.jcard_outcomes.specs.declared.tested.Tested.{Tested}
 use Rattle.jcard_test.specs.NamedTable.{IsNamed}
-use Rattle.jcard_test.specs.declared.row.Row.{Row}
+use Rattle.jcard_outcomes.specs.declared.row.Row.{Row}
 use Rattle.jcard_test.specs.declared.rows_file.NamedFile.{NamedFile}
 use Rattle.jcard_test.specs.declared.sources.Source.{Source}
 use Rattle.jcard_test.specs.declared.table_line.TableLine.{TableLine}

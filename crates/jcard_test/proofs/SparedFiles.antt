@@ -16,7 +16,7 @@ use Rattle.jcard_test.specs.Planning.{IsPlanned, table_asked}
 use Rattle.jcard_test.specs.Sources.{IsReading, SparesTexts, files_named, name_of, names_in, path_read, path_written, paths_read, paths_written}
 use Rattle.jcard_test.specs.Tests.{AreFilesRead, IsKeptAfter, IsOneUnread, IsTest, IsTestAfter, IsTestBeside, IsTestBy, IsTestOfRead, IsTestOn}
 use Rattle.jcard_test.specs.declared.request.Asked.{Asked}
-use Rattle.jcard_test.specs.declared.outcome.Tested.{Tested}
+use Rattle.jcard_outcomes.specs.declared.tested.Tested.{Tested}
 use Rattle.jcard_test.specs.declared.plan.Plan.{Plan}
 use Rattle.jcard_test.specs.declared.rows_file.NamedFile.{NamedFile}
 use Rattle.jcard_test.proofs.PlannedCards.{planned_reading, planned_named, unplanned_reading}

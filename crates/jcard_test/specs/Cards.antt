@@ -3,13 +3,13 @@ use Rattle.std.specs.Prelude.{ℕ, ◌≡◌, ◌≤◌, ◌⊎◌, ◌-◌, Boo
 use Rattle.std.specs.Borrow.{Bor}
 use Rattle.std.specs.String.{string_bytes}
 use Rattle.jcard_test.specs.Lines.{IsNumber, Says}
-use Rattle.jcard_test.specs.declared.card_rows.CardRows.{CardRows}
+use Rattle.jcard_outcomes.specs.declared.card_rows.CardRows.{CardRows}
 use Rattle.jcard_test.specs.declared.cards.SaidSweep.{SaidSweep}
 use Rattle.jcard_test.specs.declared.cards.Sweep.{Sweep}
 use Rattle.jcard_test.specs.declared.line.Line.{Line}
 use Rattle.jcard_test.specs.declared.line.Line.TheVariants.{Nothing, Row as SaysRow}
 use Rattle.jcard_test.specs.declared.numbered_line.Numbered.{Numbered}
-use Rattle.jcard_test.specs.declared.row.Row.{Row}
+use Rattle.jcard_outcomes.specs.declared.row.Row.{Row}
 
 -- a row of this number, command and answer, which is not swept
 pub record IsRow (number : ℕ) (command wanted : List ℕ) (r : Row) : Type 0 where

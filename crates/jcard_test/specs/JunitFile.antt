@@ -6,9 +6,9 @@ use Rattle.jcard_files.specs.Operand.{IsNoOperand}
 use Rattle.jcard_files.specs.declared.fault.Fault.{Fault}
 use Rattle.jcard_files.specs.declared.fault.Fault.TheVariants.{NoMemory, RowsFailed}
 use Rattle.jcard_files.specs.declared.operand.Operand.{Operand}
-use Rattle.jcard_test.specs.Junit.{junit_text}
-use Rattle.jcard_test.specs.Report.{failed_of}
-use Rattle.jcard_test.specs.declared.outcome.Tested.{Tested}
+use Rattle.jcard_outcomes.specs.Junit.{junit_text}
+use Rattle.jcard_outcomes.specs.RowReport.{failed_of}
+use Rattle.jcard_outcomes.specs.declared.tested.Tested.{Tested}
 
 -- these bytes were written to the file with this name, which is none of these; or they could not be
 abbrev pub IsWritten : List Operand → List ℕ → List ℕ → Result Unit Fault → List FileDeed → Type 0

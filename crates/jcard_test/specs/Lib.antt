@@ -1,14 +1,8 @@
-pub mod Answers
 pub mod Cards
-pub mod Comparison
-pub mod Junit
 pub mod JunitFile
 pub mod Lines
 pub mod NamedTable
-pub mod Outcome
 pub mod Planning
-pub mod Report
-pub mod Row
 pub mod Sources
 pub mod RowSweep
 pub mod Tests

@@ -14,8 +14,8 @@ use Rattle.jcard_attack.specs.declared.outcomes.AttackSweep.{AttackSweep}
 use Rattle.jcard_attack.specs.declared.outcomes.Outcome.TheVariants.{Accepted}
 use Rattle.jcard_attack.specs.declared.sweep.Sought.{Sought}
 use Rattle.jcard_test.specs.Cards.{probe_of}
-use Rattle.jcard_test.specs.Row.{line_text, script_text}
-use Rattle.jcard_test.specs.declared.row.Row.{Row}
+use Rattle.jcard_outcomes.specs.Row.{line_text, script_text}
+use Rattle.jcard_outcomes.specs.declared.row.Row.{Row}
 
 -- ---- cuts
 

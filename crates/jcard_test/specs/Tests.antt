@@ -15,22 +15,22 @@ use Rattle.jcard_script.specs.declared.script.ScriptFault.TheVariants.{PowerFaul
 use Rattle.jcard_test.specs.Cards.{AreCardsOf}
 use Rattle.jcard_test.specs.JunitFile.{IsBegun, IsKept}
 use Rattle.jcard_test.specs.Lines.{Says}
-use Rattle.jcard_test.specs.Outcome.{AllAnswered, IsFirstFailure}
-use Rattle.jcard_test.specs.Report.{report_text}
+use Rattle.jcard_outcomes.specs.Failure.{AllAnswered, IsFirstFailure}
+use Rattle.jcard_outcomes.specs.RowReport.{report_text}
 use Rattle.jcard_test.specs.Sources.{AreSpared, IsReading, name_of, paths_read}
-use Rattle.jcard_test.specs.Row.{script_text}
+use Rattle.jcard_outcomes.specs.Row.{script_text}
 use Rattle.jcard_test.specs.RowSweep.{IsToldOfSweep}
 use Rattle.jcard_test.specs.NamedTable.{IsNamed, IsUnnamed}
 use Rattle.jcard_test.specs.TextLines.{AreLinesOf, IsBeside, IsLineOf, IsUnrolled}
-use Rattle.jcard_test.specs.declared.card_rows.CardRows.{CardRows}
+use Rattle.jcard_outcomes.specs.declared.card_rows.CardRows.{CardRows}
 use Rattle.jcard_test.specs.declared.line.Line.{Line as RowLine}
 use Rattle.jcard_test.specs.declared.line.Line.TheVariants.{Include}
 use Rattle.jcard_test.specs.declared.numbered_line.Numbered.{Numbered}
-use Rattle.jcard_test.specs.declared.outcome.Failure.{Failure}
-use Rattle.jcard_test.specs.declared.outcome.Outcome.{Outcome}
-use Rattle.jcard_test.specs.declared.outcome.Outcome.TheVariants.{NoRow, Held, Failed}
-use Rattle.jcard_test.specs.declared.outcome.Tested.{Tested}
-use Rattle.jcard_test.specs.declared.row.Row.{Row}
+use Rattle.jcard_outcomes.specs.declared.tested.Failure.{Failure}
+use Rattle.jcard_outcomes.specs.declared.tested.Outcome.{Outcome}
+use Rattle.jcard_outcomes.specs.declared.tested.Outcome.TheVariants.{NoRow, Held, Failed}
+use Rattle.jcard_outcomes.specs.declared.tested.Tested.{Tested}
+use Rattle.jcard_outcomes.specs.declared.row.Row.{Row}
 use Rattle.jcard_test.specs.declared.rows_file.NamedFile.{NamedFile}
 use Rattle.jcard_test.specs.declared.rows_file.RowFile.{RowFile}
 use Rattle.jcard_test.specs.declared.table_line.TableLine.{TableLine}

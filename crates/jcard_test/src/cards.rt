@@ -3,10 +3,10 @@ ghost use Rattle.std.specs.Prelude.{◌≡◌, ◌≤◌, ℕ, List, Option, cod
 ghost use Rattle.std.specs.Borrow.{Bor};
 ghost use Rattle.jcard_test.specs.Cards.{AddsRow, AreCardsOf, IsNewCard, IsRow, IsRowOfLine, IsSweep, IsSwept, IsSweptBehind, IsUnswept, said_sweep, sweep_of};
 
-use crate::card_rows::CardRows;
 use crate::line::{Line, read_line};
 use crate::numbered_line::Numbered;
-use crate::row::Row;
+use jcard_outcomes::card_rows::CardRows;
+use jcard_outcomes::row::Row;
 use std::alloc::{AllocError, Global};
 
 /// The fewest words that a card has.

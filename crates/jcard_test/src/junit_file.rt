@@ -5,12 +5,12 @@ ghost use Rattle.jcard_files.specs.Fault.{is_unwritten};
 ghost use Rattle.jcard_test.specs.JunitFile.{IsBegun, IsKept, IsReportWritten, ended_by, verdict};
 ghost use Rattle.jcard_test.specs.Sources.{name_of};
 
-use crate::junit::junit;
-use crate::outcome::Tested;
-use crate::report::failed;
 use jcard_files::disk::Disk;
 use jcard_files::fault::Fault;
 use jcard_files::operand::Operand;
+use jcard_outcomes::junit::junit;
+use jcard_outcomes::row_report::failed;
+use jcard_outcomes::tested::Tested;
 use std::alloc::AllocError;
 
 /// The file of the report for build servers, if one is named, and the files that it is not to replace.

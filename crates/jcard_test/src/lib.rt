@@ -2,26 +2,18 @@
 #![tactic(auto)]
 
 mod answering;
-pub mod answers;
-pub mod card_rows;
 pub mod cards;
-pub mod comparison;
-pub mod failure;
 mod files_read;
-pub mod junit;
 mod junit_file;
 pub mod line;
 pub mod lines;
 mod loops;
 pub mod named_table;
 pub mod numbered_line;
-pub mod outcome;
 mod plan;
 mod planning;
 mod remarks;
-pub mod report;
 pub mod request;
-pub mod row;
 mod row_sweep;
 mod rows_file;
 mod sources;

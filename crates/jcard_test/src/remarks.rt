@@ -1,9 +1,9 @@
 //! Remarks on rows that have no form.
 
-use crate::outcome::{Failure, Outcome, Tested};
 use jcard_files::remarks::Remarks;
-use jcard_outcomes::rows::push_number;
+use jcard_outcomes::tested::{Failure, Outcome, Tested};
 use jcard_script::refused_line::{LineFault, refusal_of, told_fault};
+use jcard_texts::numbers::push_number;
 use std::alloc::{AllocError, Global};
 
 /// Says of each row that failed and has no form why: `jcard: FILE line 3, column 17: 'O' is no hexadecimal digit` and its like.

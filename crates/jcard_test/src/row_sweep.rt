@@ -4,13 +4,13 @@ ghost use Rattle.jcard_sweeps.specs.ScriptLines.{line_of};
 ghost use Rattle.jcard_test.specs.Cards.{probe_of};
 ghost use Rattle.jcard_test.specs.RowSweep.{IsToldOfFaults, IsToldOfLine, IsToldOfSweep, IsToldOfSweptLine, IsUsual};
 
-use crate::row::{Row, line, script};
 use jc_words::{MemStore, WordStore};
 use jcard_attack::aftermaths::AttackFault;
 use jcard_attack::each::attacked_in;
 use jcard_attack::report::accepted;
 use jcard_attack::sweep::{Sought, attack};
 use jcard_outcomes::models::Models;
+use jcard_outcomes::row::{Row, line, script};
 use jcard_outcomes::verdict::broken;
 use jcard_sweeps::command::Behind;
 use jcard_sweeps::progress::Nobody;

@@ -3,19 +3,16 @@ ghost use Rattle.std.specs.Prelude.{◌≡◌, ◌++◌, ◌∷◌, [], IfErr, I
 ghost use Rattle.jcard_files.specs.Effects.{Does, Writes};
 ghost use Rattle.jcard_test.specs.Sources.{name_of, names_of, paths_of};
 ghost use Rattle.jcard_test.specs.Tests.{AreAnswered, AreTested, IsOutcome, IsPlanFor, IsReported, IsTest, IsTestBeside, IsTestBy, IsTestOfRead, IsTestOn, IsTested, IsTold, IsUnanswered, IsUntested, table_of};
-ghost use Rattle.jcard_test.specs.declared.outcome.Tested.{Tested};
+ghost use Rattle.jcard_outcomes.specs.declared.tested.Tested.{Tested};
 
 use crate::answering::outcome_of;
-use crate::card_rows::CardRows;
 use crate::cards::cards_of;
 use crate::files_read::{FilesRead, files_read};
 use crate::junit_file::{JunitFile, begin_junit, keep_junit};
 use crate::numbered_line::Numbered;
-use crate::outcome::Tested;
 use crate::plan::Plan;
 use crate::planning::plan_of;
 use crate::remarks::remark_on;
-use crate::report::report;
 use crate::request::Asked;
 use crate::rows_file::{NamedFile, RowFile};
 use crate::sources::spared;
@@ -24,6 +21,9 @@ use jcard_files::disk::Disk;
 use jcard_files::fault::Fault;
 use jcard_files::remarks::Remarks;
 use jcard_files::table_remarks::remark_on_table;
+use jcard_outcomes::card_rows::CardRows;
+use jcard_outcomes::row_report::report_of_rows;
+use jcard_outcomes::tested::Tested;
 use jcard_texts::streams::{TextOut, write_all};
 use std::alloc::{AllocError, Global};
 
@@ -276,7 +276,7 @@ fn tell_tested<'n, D: Disk, W: TextOut>(
 fn tell<'n, W: TextOut>(alloc: Global, tested: &[Tested], out: &mut W) -> Result<(), Fault<'n>>
     ensures { Writes W.contents W.failures out.old out.new result (IsReported tested.now) }
 {
-    let Ok(text) = report(alloc, tested) else {
+    let Ok(text) = report_of_rows(alloc, tested) else {
         return Err(Fault::NoMemory);
     };
     match write_all(out, &text) {

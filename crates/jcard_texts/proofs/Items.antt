@@ -33,3 +33,17 @@ appended (Err fault) end between start first second e p = tt
 
 pub grown : (end between start first second : List ℕ) → between ≡ start ++ first → end ≡ between ++ second → end ≡ start ++ (first ++ second)
 grown end between start first second e h = h ∙ ap (λ l. l ++ second) e ∙ append_assoc start first second
+
+-- text that was appended in three pieces
+pub appended_again : {E : Type 0} (r : Result Unit E) (end second first start a b c : List ℕ) → first ≡ start ++ a → second ≡ first ++ b
+    → OnOk r (end ≡ second ++ c) → OnOk r (end ≡ start ++ (a ++ b ++ c))
+appended_again r end second first start a b c e f p =
+    appended r end second start (a ++ b) c (f ∙ ap (λ l. l ++ b) e ∙ append_assoc start a b) p
+
+-- text in three pieces that was appended after another
+pub appended_flat : {E : Type 0} (r : Result Unit E) (end between start first a b c : List ℕ) → between ≡ start ++ first
+    → OnOk r (end ≡ between ++ a ++ b ++ c) → OnOk r (end ≡ start ++ (first ++ (a ++ b ++ c)))
+appended_flat (Ok done) end between start first a b c e p =
+    p ∙ append_assoc (between ++ a) b c ∙ append_assoc between a (b ++ c) ∙ ap (λ l. between ++ l) (sym (append_assoc a b c))
+    ∙ ap (λ l. l ++ (a ++ b ++ c)) e ∙ append_assoc start first (a ++ b ++ c)
+appended_flat (Err fault) end between start first a b c e p = tt

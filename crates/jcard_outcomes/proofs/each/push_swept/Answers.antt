@@ -1,5 +1,5 @@
 use Rattle.jcard_outcomes.specs.Report.{line_recoveries_text, verdict_text}
-use Rattle.jcard_outcomes.proofs.Items.{appended_again}
+use Rattle.jcard_texts.proofs.Items.{appended_again}
 use Rattle.jcard_outcomes.proofs.each.push_swept.Goals as goal
 
 pub returns : goal.returns

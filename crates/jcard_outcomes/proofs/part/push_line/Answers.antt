@@ -1,6 +1,6 @@
 use Rattle.std.proofs.Common.{◌++◌, codes}
 use Rattle.jcard_outcomes.specs.Part.{line_start}
-use Rattle.jcard_outcomes.proofs.Items.{appended}
+use Rattle.jcard_texts.proofs.Items.{appended}
 use Rattle.jcard_outcomes.proofs.part.push_line.Goals as goal
 
 pub returns : goal.returns

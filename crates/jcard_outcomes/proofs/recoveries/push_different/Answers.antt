@@ -1,6 +1,6 @@
 use Rattle.std.proofs.Common.{codes, decimal}
 use Rattle.jcard_outcomes.specs.Recoveries.{writes_text}
-use Rattle.jcard_outcomes.proofs.Items.{appended_again}
+use Rattle.jcard_texts.proofs.Items.{appended_again}
 use Rattle.jcard_outcomes.proofs.recoveries.push_different.Goals as goal
 
 pub returns : goal.returns

@@ -1,6 +1,6 @@
 use Rattle.std.proofs.Common.{codes}
 use Rattle.jcard_outcomes.specs.Recoveries.{depth_text, ways_text}
-use Rattle.jcard_outcomes.proofs.Items.{appended_again}
+use Rattle.jcard_texts.proofs.Items.{appended_again}
 use Rattle.jcard_outcomes.proofs.recoveries.push_same.Goals as goal
 
 pub returns : goal.returns

@@ -1,6 +1,6 @@
 use Rattle.std.proofs.Common.{◌++◌, codes}
 use Rattle.jcard_outcomes.specs.Report.{ended, in_line, rows_text}
-use Rattle.jcard_outcomes.proofs.Items.{appended_flat}
+use Rattle.jcard_texts.proofs.Items.{appended_flat}
 use Rattle.jcard_outcomes.proofs.report.push_told_rows.Goals as goal
 
 pub returns : goal.returns

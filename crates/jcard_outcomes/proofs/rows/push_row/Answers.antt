@@ -1,6 +1,6 @@
 use Rattle.std.proofs.Common.{◌∙◌, ◌++◌, ap, codes, append_assoc}
 use Rattle.jcard_outcomes.specs.Report.{ended, numbers_text, row_text}
-use Rattle.jcard_outcomes.proofs.Items.{appended}
+use Rattle.jcard_texts.proofs.Items.{appended}
 use Rattle.jcard_outcomes.proofs.rows.push_row.Goals as goal
 
 pub returns : goal.returns

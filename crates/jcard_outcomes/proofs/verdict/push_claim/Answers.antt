@@ -1,5 +1,5 @@
 use Rattle.std.proofs.Common.{codes, if◌then◌else◌}
-use Rattle.jcard_outcomes.proofs.Items.{appended}
+use Rattle.jcard_texts.proofs.Items.{appended}
 use Rattle.jcard_outcomes.proofs.verdict.push_claim.Goals as goal
 
 pub returns : goal.returns

@@ -1,5 +1,5 @@
 use Rattle.std.proofs.Common.{◌++◌, codes}
-use Rattle.jcard_outcomes.proofs.Items.{appended}
+use Rattle.jcard_texts.proofs.Items.{appended}
 use Rattle.jcard_outcomes.proofs.verdict.push_no_write.Goals as goal
 
 pub returns : goal.returns

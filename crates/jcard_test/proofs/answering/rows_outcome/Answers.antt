@@ -1,6 +1,6 @@
 use Rattle.std.proofs.Common.{◌∙◌, ◌+◌, ap, length, min, refl, drop, subst}
 use Rattle.jcard_test.specs.Tests.{AreAnsweredOn, EndsOn}
-use Rattle.jcard_test.specs.declared.outcome.Outcome.TheVariants.{Held, Failed}
+use Rattle.jcard_outcomes.specs.declared.tested.Outcome.TheVariants.{Held, Failed}
 use Rattle.jcard_test.proofs.RowTests.{answered_all, answered_next, answered_not}
 use Rattle.jcard_test.proofs.answering.rows_outcome.Goals as goal
 

@@ -1,6 +1,6 @@
 use Rattle.std.proofs.Common.{drop}
 use Rattle.jcard_test.specs.Tests.{AreAnsweredOn}
-use Rattle.jcard_test.specs.declared.outcome.Outcome.{Outcome}
+use Rattle.jcard_outcomes.specs.declared.tested.Outcome.{Outcome}
 use Rattle.jcard_test.proofs.answering.rows_outcome.Given as goal
 
 abbrev pub invariant-loop-card : goal.invariant-loop-card

@@ -1,6 +1,6 @@
 use Rattle.std.proofs.Common.{◌≤◌, ◌++◌, [], List, drop}
 use Rattle.jcard_test.specs.Cards.{AreCards}
-use Rattle.jcard_test.specs.declared.card_rows.CardRows.{CardRows}
+use Rattle.jcard_outcomes.specs.declared.card_rows.CardRows.{CardRows}
 use Rattle.jcard_test.proofs.cards.cards_of.Given as goal
 
 abbrev pub invariant-loop-line : goal.invariant-loop-line

@@ -1,6 +1,6 @@
 use Rattle.std.proofs.Common.{◌∙◌, ℕ, List, ap₂}
 use Rattle.jcard_test.specs.Cards.{probe_of}
-use Rattle.jcard_test.specs.Row.{line_text, script_text}
+use Rattle.jcard_outcomes.specs.Row.{line_text, script_text}
 use Rattle.jcard_sweeps.specs.ScriptLines.{Line}
 use Rattle.jcard_test.proofs.RowSweeps.{told_on}
 use Rattle.jcard_test.proofs.row_sweep.told_of_sweep.Goals as goal

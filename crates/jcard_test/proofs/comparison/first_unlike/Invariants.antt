@@ -1,6 +1,0 @@
-use Rattle.std.proofs.Common.{take}
-use Rattle.jcard_test.specs.Comparison.{AreAnswered}
-use Rattle.jcard_test.proofs.comparison.first_unlike.Given as goal
-
-abbrev pub invariant-loop-place : goal.invariant-loop-place
-invariant-loop-place l = AreAnswered (take l.place l.rows) l.text l.rest
