@@ -124,3 +124,16 @@ length-header_only (APackage ws) = length-replicate {A = ℕ} (length ws) 0
 
 pub same_words : (a b : Item) → header_only a ≡ header_only b → length (words_of a) ≡ length (words_of b)
 same_words a b e = sym (length-header_only a) ∙ ap (λ t. length (words_of t)) e ∙ length-header_only b
+
+-- the words of a record of which one is set
+pub words-with_word : (t : Item) (j v : ℕ) → words_of (with_word t j v) ≡ set (words_of t) j v
+words-with_word (AnObject o) j v = refl
+words-with_word (APackage ws) j v = refl
+
+pub heap_item_at-set_word : (h : HeapState) (r j v : ℕ) → is_allocated h r ≡ true → heap_item_at (set_word h r j v) r ≡ with_word (heap_item_at h r) j v
+unfolding heap_item_at is_allocated set_word
+heap_item_at-set_word h r j v e = at_or-put_same (APackage []) h.items r (with_word (heap_item_at h r) j v) e
+
+pub record-other : (h : HeapState) (r j v q : ℕ) → (r ≡ q → ⊥) → record_of (set_word h r j v) q ≡ record_of h q
+unfolding heap_item_at set_word
+record-other h r j v q ne = ap words_of (at_or-put_other (APackage []) h.items r q (with_word (heap_item_at h r) j v) ne)

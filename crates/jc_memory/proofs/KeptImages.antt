@@ -1,104 +1,32 @@
 -- Where static images begin stays the same, in the heap as it is and in the durable one, whatever a move but that of a package does.
-use Rattle.std.proofs.Common.{◌≡◌, ℕ, zero, suc, ◌+◌, ◌-◌, ◌<◌, ◌≤◌, Bool, true, inl, inr, List, [], ◌∷◌, ◌++◌, length, set, get_or, refl, sym, ◌∙◌, ap, subst}
-use Rattle.std.proofs.Common.{arith, Option, Some, None, IfSome, if◌then◌else◌}
+use Rattle.std.proofs.Common.{◌≡◌, ℕ, zero, suc, ◌+◌, ◌<◌, ◌≤◌, true, inl, inr, List, [], ◌∷◌, ◌++◌, length, set, refl, sym, ◌∙◌, ap, subst}
+use Rattle.std.proofs.Common.{arith, Some, if◌then◌else◌}
 use Rattle.std.specs.Prelude.{slice_index_or}
-use Rattle.std.proofs.lemmas.List.{get_or-set_other}
-use Rattle.std.proofs.lemmas.Bool.{cases_Bool, cases_eq, cases_lt, eq-eqb, ne_eqb, true≢false}
-use Rattle.std.proofs.lemmas.Option.{none-some, same_Some}
+use Rattle.std.proofs.lemmas.Bool.{cases_Bool, cases_eq, cases_lt, true≢false}
+use Rattle.std.proofs.lemmas.Option.{same_Some}
 use Rattle.jc_transient.specs.declared.cell.ClearEvent.{ClearEvent}
 use Rattle.jc_transient.specs.declared.cell.ClearEvent.TheVariants.{Reset, Deselect}
 use Rattle.jc_heap.specs.declared.object.Kind.{Kind}
 use Rattle.jc_heap.specs.declared.place.Place.{Place}
 use Rattle.jc_heap.specs.declared.place.Place.TheVariants.{Cell, Static, Registry, AppletCount}
-use Rattle.jc_heap.specs.Walk.{records_from}
 use Rattle.jc_heap.specs.Object.{AnObject, APackage, Item, Object, new_transient, transient_size, with_cell}
-use Rattle.jc_heap.specs.Component.{part_sizes, record_of, words_for, words_of}
+use Rattle.jc_heap.specs.Component.{record_of, words_of}
 use Rattle.jc_heap.specs.Heap.{HeapState, HeapView, HasEnd, add_object, add_transient, area_end, goes_back, heap_item_at, is_allocated, set_cell}
 use Rattle.jc_heap.specs.Heap.{set_cells, with_area_end}
 use Rattle.jc_heap.specs.HeapLaws.{AreConsistent}
 use Rattle.jc_heap.specs.Moves.{Move, Write, SetPlaces, WriteNonAtomic, SetCells, AddObject, AddTransient, AddPackage, Begin, Commit, Abort, apply_move}
 use Rattle.jc_heap.specs.Place.{AreThere, HasPlace, cell_changes, place_at, set_place, set_places}
-use Rattle.jc_heap.specs.Statics.{IsStatic, image_from, set_word, statics_of, with_word}
+use Rattle.jc_heap.specs.Statics.{IsStatic, set_word, statics_of}
 use Rattle.jc_heap.proofs.Laws.{heap_item_at-add_other, heap_item_at-set_cell, heap_item_at-set_other, set_cell-absent, top-add_object}
 use Rattle.jc_heap.proofs.KeepingMoves.{top-place, top-places, top-run}
-use Rattle.jc_heap.proofs.RecordWords.{set_word-absent}
-use Rattle.jc_heap.proofs.StaticImages.{static_behind}
-use Rattle.jc_heap.proofs.Tables.{at_or-put_same, at_or-put_other}
+use Rattle.jc_heap.proofs.RecordWords.{heap_item_at-set_word, record-other, set_word-absent, words-with_word}
+use Rattle.jc_heap.proofs.StaticImages.{static_behind, statics_set_at}
 use Rattle.jc_memory.specs.declared.images.KnownImage.{KnownImage}
 use Rattle.jc_memory.specs.Images.{AreImages, IsImage}
-
--- ---- in the words of a record
-
-raise : (at : ℕ) (o : Option ℕ) → IfSome o (λ b. suc at + 1 ≤ b) → IfSome o (λ b. at + 1 ≤ b)
-raise at None low = tt
-raise at (Some b) low = omega (arith, low)
-
-image_low : (s at : ℕ) (ws : List ℕ) → IfSome (image_from (records_from part_sizes s at ws)) (λ b. at + 1 ≤ b)
-image_low s at [] = tt
-image_low (suc s) at (w ∷ ws) = raise at (image_from (records_from part_sizes s (suc at) ws)) (image_low s (suc at) ws)
-image_low zero at (w ∷ ws) = elim (cases_eq w 0) [
-  | inl e ↦ subst (λ c. IfSome (if c then Some (at + 1) else image_from (records_from part_sizes (part_sizes at (w ∷ ws)) (suc at) ws)) (λ b. at + 1 ≤ b))
-      (sym (eq-eqb w 0 e)) (omega arith)
-  | inr ne ↦ subst (λ c. IfSome (if c then Some (at + 1) else image_from (records_from part_sizes (part_sizes at (w ∷ ws)) (suc at) ws)) (λ b. at + 1 ≤ b))
-      (sym (ne_eqb w 0 ne))
-      (raise at (image_from (records_from part_sizes (part_sizes at (w ∷ ws)) (suc at) ws)) (image_low (part_sizes at (w ∷ ws)) (suc at) ws))
-]
-
-low_of : (s at : ℕ) (ws : List ℕ) (b : ℕ) → image_from (records_from part_sizes s at ws) ≡ Some b → at + 1 ≤ b
-low_of s at ws b e = subst (λ o. IfSome o (λ n. at + 1 ≤ n)) e (image_low s at ws)
-
--- a word after its begin doesn't say it
-image_set : (s at : ℕ) (ws : List ℕ) (q v b : ℕ) → image_from (records_from part_sizes s at ws) ≡ Some b → b ≤ at + q
-    → image_from (records_from part_sizes s at (set ws q v)) ≡ Some b
-image_set s at [] q v b e le = e
-image_set (suc s) at (w ∷ ws) zero v b e le = absurd (let low = low_of s (suc at) ws b e in omega (arith, low, le))
-image_set (suc s) at (w ∷ ws) (suc q) v b e le = image_set s (suc at) ws q v b e (omega (arith, le))
-image_set zero at (w ∷ ws) zero v b e le = absurd (let low = low_of zero at (w ∷ ws) b e in omega (arith, low, le))
-image_set zero at (w ∷ ws) (suc q) v b e le = elim (cases_eq w 0) [
-  | inl z ↦
-      ap (λ c. if c then Some (at + 1) else image_from (records_from part_sizes (part_sizes at (w ∷ set ws q v)) (suc at) (set ws q v))) (eq-eqb w 0 z)
-      ∙ sym (ap (λ c. if c then Some (at + 1) else image_from (records_from part_sizes (part_sizes at (w ∷ ws)) (suc at) ws)) (eq-eqb w 0 z)) ∙ e
-  | inr ne ↦
-      let rest : image_from (records_from part_sizes (part_sizes at (w ∷ ws)) (suc at) ws) ≡ Some b =
-      sym (ap (λ c. if c then Some (at + 1) else image_from (records_from part_sizes (part_sizes at (w ∷ ws)) (suc at) ws)) (ne_eqb w 0 ne)) ∙ e in
-      let low : suc at + 1 ≤ b = low_of (part_sizes at (w ∷ ws)) (suc at) ws b rest in
-      let size : part_sizes at (w ∷ set ws q v) ≡ part_sizes at (w ∷ ws) =
-      ap (λ c. if c then length (w ∷ set ws q v) - 1 else 1 + words_for (get_or (set ws q v) 0 0)) (ne_eqb w 0 ne)
-      ∙ ap (λ n. 1 + words_for n) (get_or-set_other ws q 0 v 0 (λ z. omega (arith, z, low, le)))
-      ∙ sym (ap (λ c. if c then length (w ∷ ws) - 1 else 1 + words_for (get_or ws 0 0)) (ne_eqb w 0 ne)) in
-      ap (λ c. if c then Some (at + 1) else image_from (records_from part_sizes (part_sizes at (w ∷ set ws q v)) (suc at) (set ws q v))) (ne_eqb w 0 ne)
-      ∙ ap (λ n. image_from (records_from part_sizes n (suc at) (set ws q v))) size
-      ∙ image_set (part_sizes at (w ∷ ws)) (suc at) ws q v b rest (omega (arith, le))
-]
-
-image_is : (w : ℕ) (ws : List ℕ) (b : ℕ) → statics_of (w ∷ ws) ≡ Some b → (get_or ws 0 0 ≡ 0 → ⊥) × (image_from (records_from part_sizes 0 1 ws) ≡ Some b)
-unfolding statics_of
-image_is w ws b e = elim (cases_eq (get_or ws 0 0) 0) [
-  | inl z ↦ absurd (none-some b (sym (ap (λ c. if c then None else image_from (records_from part_sizes 0 1 ws)) (eq-eqb (get_or ws 0 0) 0 z)) ∙ e))
-  | inr ne ↦ (ne, sym (ap (λ c. if c then None else image_from (records_from part_sizes 0 1 ws)) (ne_eqb (get_or ws 0 0) 0 ne)) ∙ e)
-]
-
-is_image : (w : ℕ) (ws : List ℕ) (b : ℕ) → (get_or ws 0 0 ≡ 0 → ⊥) → image_from (records_from part_sizes 0 1 ws) ≡ Some b → statics_of (w ∷ ws) ≡ Some b
-unfolding statics_of
-is_image w ws b ne e = ap (λ c. if c then None else image_from (records_from part_sizes 0 1 ws)) (ne_eqb (get_or ws 0 0) 0 ne) ∙ e
-
-statics_set_at : (words : List ℕ) (j v b : ℕ) → 4 ≤ j → statics_of words ≡ Some b → b ≤ j → statics_of (set words j v) ≡ Some b
-statics_set_at [] j v b four e le = e
-statics_set_at (w ∷ ws) zero v b four e le = absurd (omega (arith, four))
-statics_set_at (w ∷ ws) (suc q) v b four e le =
-    let parts = image_is w ws b e in
-    is_image w (set ws q v) b (λ z. parts.0 (sym (get_or-set_other ws q 0 v 0 (λ n. omega (arith, n, four))) ∙ z))
-    (image_set 0 1 ws q v b parts.1 (omega (arith, le)))
-
--- ---- in a heap
 
 words-with_cell : (t : Item) (i v : ℕ) → words_of (with_cell t i v) ≡ words_of t
 words-with_cell (AnObject o) i v = refl
 words-with_cell (APackage ws) i v = refl
-
-words-with_word : (t : Item) (j v : ℕ) → words_of (with_word t j v) ≡ set (words_of t) j v
-words-with_word (AnObject o) j v = refl
-words-with_word (APackage ws) j v = refl
 
 record-set_cell : (h : HeapState) (r i v q : ℕ) → record_of (set_cell h r i v) q ≡ record_of h q
 record-set_cell h r i v q = elim (cases_eq r q) [
@@ -109,14 +37,6 @@ record-set_cell h r i v q = elim (cases_eq r q) [
   ]
   | inr n ↦ ap words_of (heap_item_at-set_other h r i v q n)
 ]
-
-heap_item_at-set_word : (h : HeapState) (r j v : ℕ) → is_allocated h r ≡ true → heap_item_at (set_word h r j v) r ≡ with_word (heap_item_at h r) j v
-unfolding heap_item_at is_allocated set_word
-heap_item_at-set_word h r j v e = at_or-put_same (APackage []) h.items r (with_word (heap_item_at h r) j v) e
-
-record-other : (h : HeapState) (r j v q : ℕ) → (r ≡ q → ⊥) → record_of (set_word h r j v) q ≡ record_of h q
-unfolding heap_item_at set_word
-record-other h r j v q ne = ap words_of (at_or-put_other (APackage []) h.items r q (with_word (heap_item_at h r) j v) ne)
 
 record-registry : (h : HeapState) (i v q : ℕ) → record_of (set_place h (Registry i) v) q ≡ record_of h q
 unfolding heap_item_at

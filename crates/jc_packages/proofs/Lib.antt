@@ -8,3 +8,9 @@ pub mod Aids
 pub mod Order
 pub mod SetCells
 pub mod KnownPackages
+pub mod Lists
+pub mod RecordArrays
+pub mod LoadImages
+pub mod ReadBack
+pub mod ReadingRecords
+pub mod Whole

@@ -26,7 +26,7 @@ use Rattle.law_soundness.specs.LoadedPackages.{IsReadable, LoadedPackagesReadBac
 use Rattle.law_soundness.proofs.ReadingHeaps.{records_same}
 use Rattle.law_soundness.proofs.RecordPackages.{Prepares, are_read, assembled_is, has_all, prepares}
 use Rattle.law_soundness.proofs.ReadingTexts.{AreRead, load_back}
-use Rattle.law_soundness.proofs.RecordArrays.{item_behind}
+use Rattle.jc_packages.proofs.RecordArrays.{item_behind}
 use Rattle.law_soundness.proofs.Objects.{packages-add_object}
 
 -- ---- what stands in the heap

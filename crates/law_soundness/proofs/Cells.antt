@@ -14,7 +14,7 @@ use Rattle.jc_linker.specs.Classes.{reference_cell, is_a}
 use Rattle.jc_linker.specs.Values.{Packages}
 use Rattle.jc_packages.specs.Objects.{HoldsReferences, fits_aid, fits_pin, is_persistent_instance, is_reference, is_object_address}
 use Rattle.jc_packages.specs.Sound.{entry_word}
-use Rattle.law_soundness.proofs.Lists.{first_set}
+use Rattle.jc_packages.proofs.Lists.{first_set}
 use Rattle.law_soundness.proofs.HeapChanges.{AidsStay, Carries, HoldsBut, IsFitBut, IsSoundBut, object_kept, object_new, pin_kept, pin_same, records_kept}
 use Rattle.law_soundness.proofs.HeapChanges.{reference_kept, sound_kept}
 use Rattle.law_code.proofs.SparedObjects.{applets-set_cell}

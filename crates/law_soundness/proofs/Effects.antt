@@ -35,7 +35,7 @@ use Rattle.law_soundness.proofs.Frames.{transient_frames}
 use Rattle.law_soundness.proofs.Transients.{cleared_carried, fill_carried, flags_carried, names_object, object_carried, same_carried, transient_carried}
 use Rattle.law_soundness.proofs.Frames.{word_frames}
 use Rattle.law_soundness.proofs.HeapChanges.{IsSoundBut, owner_same}
-use Rattle.law_soundness.proofs.Lists.{zeros}
+use Rattle.jc_packages.proofs.Lists.{zeros}
 use Rattle.law_soundness.proofs.Memories.{aborted_kept, again, applet_same, begun_kept, change_kept, choose, committed_kept, home_same, kept_changed, known_low}
 use Rattle.law_soundness.proofs.Memories.{known_now, low_now, most_opened, turned_kept}
 use Rattle.law_soundness.proofs.Objects.{object_added, transient_added}

@@ -15,7 +15,7 @@ use Rattle.jc_packages.specs.Objects.{HoldsReferences, HoldsValues, fits_aid, fi
 use Rattle.jc_packages.specs.Objects.{is_persistent_instance, is_reference, is_object_address}
 use Rattle.jc_packages.specs.Sound.{HasOwnAid, HoldsStatics, IsRegistered, aid_of_entry, aid_in, entry_word, holds_aid, package_record_at}
 use Rattle.law_soundness.specs.MemoryLaws.State.{IsFitObject, IsOwnAid, IsSoundUpTo, is_owner_up_to}
-use Rattle.law_soundness.proofs.Lists.{Agree, aid_same}
+use Rattle.jc_packages.proofs.Lists.{Agree, aid_same}
 use Rattle.law_code.proofs.SparedObjects.{SameApplets}
 
 -- what an instance holds fits its class; of one instance, what a PIN's cells say of one another need not

@@ -1,4 +1,3 @@
-pub mod Lists
 pub mod HeapChanges
 pub mod Cells
 pub mod Values
@@ -62,10 +61,8 @@ pub mod Phases
 pub mod Commands
 pub mod CommandLaws
 pub mod Causes
-pub mod ReadingRecords
 pub mod ReadingHeaps
 pub mod ReadingEffects
-pub mod ReadBack
 pub mod ReadingTexts
 pub mod RecordPackages
 pub mod AddedPackages
@@ -78,9 +75,6 @@ pub mod GrowthTexts
 pub mod GrowthRecords
 pub mod Words
 pub mod OneMore
-pub mod RecordArrays
-pub mod LoadImages
 pub mod PreparedPackages
-pub mod Whole
 pub mod LoadRecords
 pub mod RecordFit

@@ -20,8 +20,8 @@ use Rattle.jc_packages.specs.Objects.{HoldsValues, fits_class, is_instance, is_r
 use Rattle.jc_packages.specs.Sound.{HoldsStatics, IsRegistered, aid_in, aid_of_entry, entry_word, package_record_at}
 use Rattle.law_soundness.specs.MemoryLaws.State.{IsFitObject, IsOwnAid, IsSoundUpTo, is_owner_up_to}
 use Rattle.law_soundness.proofs.HeapChanges.{Carries, HoldsBut, IsFitBut, object_kept, registered_kept, statics_kept}
-use Rattle.law_soundness.proofs.RecordArrays.{AreInitial, IsArrayOf, below_end, item_behind, old_or_array, same_registry}
-use Rattle.law_soundness.proofs.LoadImages.{AreTagged, image_begins, image_ends}
+use Rattle.jc_packages.proofs.RecordArrays.{AreInitial, IsArrayOf, below_end, item_behind, old_or_array, same_registry}
+use Rattle.jc_packages.proofs.LoadImages.{AreTagged, image_begins, image_ends}
 
 -- initialised arrays fit any packages
 fits_initial : (p : Packages) (kind : Kind) (class long : ℕ) → is_array_init kind ≡ true → fits_class p kind class long ≡ true

@@ -18,7 +18,7 @@ use Rattle.jc_packages.specs.Objects.{fits_aid, fits_class, fits_pin, is_instanc
 use Rattle.jc_linker.specs.Classes.{is_a}
 use Rattle.jc_packages.specs.Sound.{entry_word}
 use Rattle.law_soundness.specs.MemoryLaws.State.{is_owner_up_to}
-use Rattle.law_soundness.proofs.Lists.{zeros}
+use Rattle.jc_packages.proofs.Lists.{zeros}
 use Rattle.law_soundness.proofs.HeapChanges.{Carries, HoldsBut, IsFitBut, IsSoundBut, object_kept, owner_same, pin_same, records_kept, sound_kept}
 use Rattle.law_code.proofs.SparedObjects.{applets-add_object}
 

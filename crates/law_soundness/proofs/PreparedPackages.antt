@@ -23,8 +23,8 @@ use Rattle.jc_packages.specs.PendingPackages.{PendingPackageValue, if_read, link
 use Rattle.jc_packages.specs.LinkerView.{linker_view}
 use Rattle.jc_packages.proofs.Fit.{parts_fit}
 use Rattle.jc_packages.proofs.StaticCells.{image_adds_up, statics_read}
-use Rattle.law_soundness.proofs.RecordArrays.{AreInitial}
-use Rattle.law_soundness.proofs.LoadImages.{AreTagged}
+use Rattle.jc_packages.proofs.RecordArrays.{AreInitial}
+use Rattle.jc_packages.proofs.LoadImages.{AreTagged}
 use Rattle.law_soundness.proofs.RecordPackages.{linked_ok, read_ok}
 
 -- ---- what answered

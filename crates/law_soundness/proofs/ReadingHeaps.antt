@@ -16,15 +16,17 @@ use Rattle.jc_heap.specs.Place.{set_place, set_places}
 use Rattle.jc_heap.specs.Statics.{IsStatic, set_word}
 use Rattle.jc_heap.specs.WholeHeap.{AreAllocated}
 use Rattle.jc_heap.proofs.Laws.{heap_item_at-add_other}
+use Rattle.jc_heap.proofs.RecordWords.{record-other}
+use Rattle.jc_heap.proofs.StaticImages.{statics_set}
 use Rattle.jc_linker.specs.Values.{Packages}
 use Rattle.jc_platform.specs.Tokens.{Tokens}
 use Rattle.jc_packages.specs.PendingPackages.{linked_components}
 use Rattle.jc_packages.specs.Reading.{load_of, packages_of, with_prepared, with_records}
 use Rattle.law_soundness.proofs.Cells.{record-set_cell}
-use Rattle.law_soundness.proofs.Statics.{record-other, record-set_word, statics_set}
+use Rattle.law_soundness.proofs.Statics.{record-set_word}
 use Rattle.law_soundness.proofs.Pins.{packages-set_place}
 use Rattle.law_soundness.proofs.Objects.{packages-add_object}
-use Rattle.law_soundness.proofs.ReadingRecords.{load_set}
+use Rattle.jc_packages.proofs.ReadingRecords.{load_set}
 
 -- the same packages' records say the same of their components
 pub record TellSame (h g : HeapState) : Type 0 where

@@ -17,8 +17,8 @@ use Rattle.jc_packages.specs.Reading.{load_of, text_in}
 use Rattle.jc_packages.specs.LinkerView.{info_of_component}
 use Rattle.jc_packages.proofs.Fit.{parts_fit}
 use Rattle.law_soundness.specs.LoadedPackages.{AreBytes}
-use Rattle.law_soundness.proofs.ReadingRecords.{load_is}
-use Rattle.law_soundness.proofs.ReadBack.{look, text_back, text_of}
+use Rattle.jc_packages.proofs.ReadingRecords.{load_is}
+use Rattle.jc_packages.proofs.ReadBack.{look, text_back, text_of}
 
 -- ---- one component
 

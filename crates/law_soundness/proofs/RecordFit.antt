@@ -20,8 +20,8 @@ use Rattle.jc_packages.specs.PendingPackages.{PendingPackageValue}
 use Rattle.jc_packages.specs.Objects.{is_reference, is_object_address}
 use Rattle.jc_packages.specs.Sound.{HoldsStatics}
 use Rattle.law_soundness.specs.Loads.{RecordsFit, with_record}
-use Rattle.law_soundness.proofs.RecordArrays.{arrays_stand}
-use Rattle.law_soundness.proofs.LoadImages.{address_is, null_is}
+use Rattle.jc_packages.proofs.RecordArrays.{arrays_stand}
+use Rattle.jc_packages.proofs.LoadImages.{address_is, null_is}
 use Rattle.law_soundness.proofs.PreparedPackages.{IsPrepared, adds_up, image_references_is, image_size_is, initial_arrays, is_prepared, some_parts, tagged_parts}
 use Rattle.law_soundness.proofs.LoadRecords.{fits_grown, image_held}
 

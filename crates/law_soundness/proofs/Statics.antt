@@ -1,18 +1,16 @@
 -- A word of a package's static image is set.
-use Rattle.std.proofs.Common.{◌≡◌, ℕ, zero, suc, ◌+◌, ◌-◌, ◌<◌, ◌≤◌, true, inl, inr, List, [], ◌∷◌, length, set, get_or, refl, sym, ◌∙◌, ap, subst, arith}
-use Rattle.std.proofs.Common.{Option, Some, None, IfSome, if◌then◌else◌}
+use Rattle.std.proofs.Common.{◌≡◌, ℕ, ◌+◌, ◌<◌, true, inl, inr, length, set, get_or, refl, sym, ◌∙◌, ap, subst, arith}
+use Rattle.std.proofs.Common.{Some}
 use Rattle.std.proofs.lemmas.List.{length-set, get_or-set_same, get_or-set_other}
-use Rattle.std.proofs.lemmas.Bool.{cases_Bool, cases_eq, eq-eqb, ne_eqb}
-use Rattle.std.proofs.lemmas.Option.{none-some, same_Some}
-use Rattle.jc_heap.specs.Walk.{records_from}
+use Rattle.std.proofs.lemmas.Bool.{cases_Bool, cases_eq}
+use Rattle.std.proofs.lemmas.Option.{same_Some}
 use Rattle.jc_heap.specs.Object.{AnObject, APackage, Item, cells_of, facts_of, is_object}
-use Rattle.jc_heap.specs.Component.{part_sizes, record_of, words_for, words_of}
+use Rattle.jc_heap.specs.Component.{record_of, words_of}
 use Rattle.jc_heap.specs.Heap.{HeapState, IsObject, heap_item_at, is_allocated}
-use Rattle.jc_heap.specs.Statics.{IsStatic, image_from, set_word, statics_of, with_word}
+use Rattle.jc_heap.specs.Statics.{IsStatic, set_word, statics_of, with_word}
 use Rattle.jc_heap.proofs.Laws.{heap_item_at-absent}
-use Rattle.jc_heap.proofs.RecordWords.{header_only-set_word, of_item-set_word, same_words}
-use Rattle.jc_heap.proofs.StaticImages.{static_behind}
-use Rattle.jc_heap.proofs.Tables.{at_or-put_same, at_or-put_other}
+use Rattle.jc_heap.proofs.RecordWords.{header_only-set_word, heap_item_at-set_word, of_item-set_word, record-other, same_words, words-with_word}
+use Rattle.jc_heap.proofs.StaticImages.{statics_set}
 use Rattle.jc_linker.specs.Lookups.{statics_at}
 use Rattle.jc_linker.specs.Values.{Packages}
 use Rattle.jc_packages.specs.Objects.{is_reference}
@@ -20,82 +18,6 @@ use Rattle.jc_packages.specs.Sound.{HoldsStatics, entry_word, package_record_at}
 use Rattle.law_soundness.specs.MemoryLaws.Fit.{FitsStatic}
 use Rattle.law_soundness.proofs.HeapChanges.{Carries, IsSoundBut, object_kept, reference_kept, sound_kept, statics_kept}
 use Rattle.law_code.proofs.SparedObjects.{applets-set_word}
-
--- ---- where the image begins
-
-raise : (at : ℕ) (o : Option ℕ) → IfSome o (λ b. suc at + 1 ≤ b) → IfSome o (λ b. at + 1 ≤ b)
-raise at None low = tt
-raise at (Some b) low = omega (arith, low)
-
-image_low : (s at : ℕ) (ws : List ℕ) → IfSome (image_from (records_from part_sizes s at ws)) (λ b. at + 1 ≤ b)
-image_low s at [] = tt
-image_low (suc s) at (w ∷ ws) = raise at (image_from (records_from part_sizes s (suc at) ws)) (image_low s (suc at) ws)
-image_low zero at (w ∷ ws) = elim (cases_eq w 0) [
-  | inl e ↦ subst (λ c. IfSome (if c then Some (at + 1) else image_from (records_from part_sizes (part_sizes at (w ∷ ws)) (suc at) ws)) (λ b. at + 1 ≤ b))
-      (sym (eq-eqb w 0 e)) (omega arith)
-  | inr ne ↦ subst (λ c. IfSome (if c then Some (at + 1) else image_from (records_from part_sizes (part_sizes at (w ∷ ws)) (suc at) ws)) (λ b. at + 1 ≤ b))
-      (sym (ne_eqb w 0 ne))
-      (raise at (image_from (records_from part_sizes (part_sizes at (w ∷ ws)) (suc at) ws)) (image_low (part_sizes at (w ∷ ws)) (suc at) ws))
-]
-
-low_of : (s at : ℕ) (ws : List ℕ) (b : ℕ) → image_from (records_from part_sizes s at ws) ≡ Some b → at + 1 ≤ b
-low_of s at ws b e = subst (λ o. IfSome o (λ n. at + 1 ≤ n)) e (image_low s at ws)
-
--- a word after its begin doesn't say it
-image_set : (s at : ℕ) (ws : List ℕ) (q v b : ℕ) → image_from (records_from part_sizes s at ws) ≡ Some b → b ≤ at + q
-    → image_from (records_from part_sizes s at (set ws q v)) ≡ Some b
-image_set s at [] q v b e le = e
-image_set (suc s) at (w ∷ ws) zero v b e le = absurd (let low = low_of s (suc at) ws b e in omega (arith, low, le))
-image_set (suc s) at (w ∷ ws) (suc q) v b e le = image_set s (suc at) ws q v b e (omega (arith, le))
-image_set zero at (w ∷ ws) zero v b e le = absurd (let low = low_of zero at (w ∷ ws) b e in omega (arith, low, le))
-image_set zero at (w ∷ ws) (suc q) v b e le = elim (cases_eq w 0) [
-  | inl z ↦
-      ap (λ c. if c then Some (at + 1) else image_from (records_from part_sizes (part_sizes at (w ∷ set ws q v)) (suc at) (set ws q v))) (eq-eqb w 0 z)
-      ∙ sym (ap (λ c. if c then Some (at + 1) else image_from (records_from part_sizes (part_sizes at (w ∷ ws)) (suc at) ws)) (eq-eqb w 0 z)) ∙ e
-  | inr ne ↦
-      let rest : image_from (records_from part_sizes (part_sizes at (w ∷ ws)) (suc at) ws) ≡ Some b =
-      sym (ap (λ c. if c then Some (at + 1) else image_from (records_from part_sizes (part_sizes at (w ∷ ws)) (suc at) ws)) (ne_eqb w 0 ne)) ∙ e in
-      let low : suc at + 1 ≤ b = low_of (part_sizes at (w ∷ ws)) (suc at) ws b rest in
-      let size : part_sizes at (w ∷ set ws q v) ≡ part_sizes at (w ∷ ws) =
-      ap (λ c. if c then length (w ∷ set ws q v) - 1 else 1 + words_for (get_or (set ws q v) 0 0)) (ne_eqb w 0 ne)
-      ∙ ap (λ n. 1 + words_for n) (get_or-set_other ws q 0 v 0 (λ z. omega (arith, z, low, le)))
-      ∙ sym (ap (λ c. if c then length (w ∷ ws) - 1 else 1 + words_for (get_or ws 0 0)) (ne_eqb w 0 ne)) in
-      ap (λ c. if c then Some (at + 1) else image_from (records_from part_sizes (part_sizes at (w ∷ set ws q v)) (suc at) (set ws q v))) (ne_eqb w 0 ne)
-      ∙ ap (λ n. image_from (records_from part_sizes n (suc at) (set ws q v))) size
-      ∙ image_set (part_sizes at (w ∷ ws)) (suc at) ws q v b rest (omega (arith, le))
-]
-
-image_is : (w : ℕ) (ws : List ℕ) (b : ℕ) → statics_of (w ∷ ws) ≡ Some b → (get_or ws 0 0 ≡ 0 → ⊥) × (image_from (records_from part_sizes 0 1 ws) ≡ Some b)
-unfolding statics_of
-image_is w ws b e = elim (cases_eq (get_or ws 0 0) 0) [
-  | inl z ↦ absurd (none-some b (sym (ap (λ c. if c then None else image_from (records_from part_sizes 0 1 ws)) (eq-eqb (get_or ws 0 0) 0 z)) ∙ e))
-  | inr ne ↦ (ne, sym (ap (λ c. if c then None else image_from (records_from part_sizes 0 1 ws)) (ne_eqb (get_or ws 0 0) 0 ne)) ∙ e)
-]
-
-is_image : (w : ℕ) (ws : List ℕ) (b : ℕ) → (get_or ws 0 0 ≡ 0 → ⊥) → image_from (records_from part_sizes 0 1 ws) ≡ Some b → statics_of (w ∷ ws) ≡ Some b
-unfolding statics_of
-is_image w ws b ne e = ap (λ c. if c then None else image_from (records_from part_sizes 0 1 ws)) (ne_eqb (get_or ws 0 0) 0 ne) ∙ e
-
-statics_set_at : (words : List ℕ) (j v b : ℕ) → 4 ≤ j → statics_of words ≡ Some b → b ≤ j → statics_of (set words j v) ≡ Some b
-statics_set_at [] j v b four e le = e
-statics_set_at (w ∷ ws) zero v b four e le = absurd (omega (arith, four))
-statics_set_at (w ∷ ws) (suc q) v b four e le =
-    let parts = image_is w ws b e in
-    is_image w (set ws q v) b (λ z. parts.0 (sym (get_or-set_other ws q 0 v 0 (λ n. omega (arith, n, four))) ∙ z))
-    (image_set 0 1 ws q v b parts.1 (omega (arith, le)))
-
--- a word of the image doesn't say where it begins
-pub statics_set : (words : List ℕ) (j v b : ℕ) → IsStatic words j → statics_of words ≡ Some b → statics_of (set words j v) ≡ Some b
-statics_set words j v b there e =
-    let same : there.begin ≡ b = same_Some there.begin b (sym there.image ∙ e) in
-    let behind : there.begin ≤ j = there.behind in
-    statics_set_at words j v b (static_behind words j there) e (omega (arith, same, behind))
-
--- ---- in a heap
-
-words-with_word : (t : Item) (j v : ℕ) → words_of (with_word t j v) ≡ set (words_of t) j v
-words-with_word (AnObject o) j v = refl
-words-with_word (APackage ws) j v = refl
 
 cells-with_word : (t : Item) (j v : ℕ) → cells_of (with_word t j v) ≡ cells_of t
 cells-with_word (AnObject o) j v = refl
@@ -108,14 +30,6 @@ facts-with_word (APackage ws) j v = refl
 pub object-with_word : (t : Item) (j v : ℕ) → is_object (with_word t j v) ≡ is_object t
 object-with_word (AnObject o) j v = refl
 object-with_word (APackage ws) j v = refl
-
-heap_item_at-set_word : (h : HeapState) (r j v : ℕ) → is_allocated h r ≡ true → heap_item_at (set_word h r j v) r ≡ with_word (heap_item_at h r) j v
-unfolding heap_item_at is_allocated set_word
-heap_item_at-set_word h r j v e = at_or-put_same (APackage []) h.items r (with_word (heap_item_at h r) j v) e
-
-pub record-other : (h : HeapState) (r j v q : ℕ) → (r ≡ q → ⊥) → record_of (set_word h r j v) q ≡ record_of h q
-unfolding heap_item_at set_word
-record-other h r j v q ne = ap words_of (at_or-put_other (APackage []) h.items r q (with_word (heap_item_at h r) j v) ne)
 
 record_named : (h : HeapState) (r : ℕ) → 0 < length (record_of h r) → is_allocated h r ≡ true
 record_named h r some = elim (cases_Bool (is_allocated h r)) [

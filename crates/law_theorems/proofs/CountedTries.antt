@@ -22,7 +22,7 @@ use Rattle.law_soundness.specs.MachineLaws.Soundness.{AreKnown}
 use Rattle.law_soundness.specs.MemoryLaws.State.{IsSoundMemory}
 use Rattle.law_soundness.proofs.Effects.{event_none}
 use Rattle.law_soundness.proofs.CommandEffects.{serving_keeps}
-use Rattle.law_soundness.proofs.RecordArrays.{below_end}
+use Rattle.jc_packages.proofs.RecordArrays.{below_end}
 use Rattle.law_theorems.specs.Tries.{is_owner_pin, tries_in}
 use Rattle.law_theorems.specs.SessionTheorems.Cuts.{SetNoTries, SetsTries}
 use Rattle.law_theorems.specs.SessionTheorems.TryChanges.{Renews}

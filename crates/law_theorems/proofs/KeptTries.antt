@@ -32,7 +32,7 @@ use Rattle.law_soundness.specs.MemoryLaws.State.{IsSoundMemory}
 use Rattle.law_soundness.proofs.CommandEffects.{serving_keeps}
 use Rattle.law_soundness.proofs.Frames.{same_object}
 use Rattle.law_soundness.specs.Loads.{AreLaidOut}
-use Rattle.law_soundness.proofs.RecordArrays.{below_end}
+use Rattle.jc_packages.proofs.RecordArrays.{below_end}
 use Rattle.law_theorems.proofs.HeapLayout.{effects_keep_layout}
 use Rattle.law_theorems.specs.Tries.{PlaceStays, SetsAnew, TriesStay, is_owner_pin, value_after}
 use Rattle.law_theorems.proofs.EffectWords.{IsNone, PinStands, decides, no_instance, none_of, plain_pin, words_by}

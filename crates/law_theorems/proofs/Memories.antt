@@ -31,7 +31,7 @@ use Rattle.law_soundness.proofs.RecordFit.{records_fit}
 use Rattle.law_soundness.proofs.PreparedPackages.{initial_arrays}
 use Rattle.law_soundness.proofs.LoadRecords.{applets_same, counts_grown, item_low, item_old, longer, no_instance, old_or_new}
 use Rattle.law_theorems.proofs.LivingLoads.{package_carried}
-use Rattle.law_soundness.proofs.Whole.{package_stands}
+use Rattle.jc_packages.proofs.Whole.{package_stands}
 use Rattle.law_theorems.proofs.Separation.{package_apart}
 
 -- owners, with one package more

@@ -34,7 +34,7 @@ use Rattle.law_soundness.specs.MemoryLaws.State.{IsSoundMemory}
 use Rattle.law_soundness.proofs.Effects.{event_none}
 use Rattle.law_theorems.specs.Cards.{IsOwnCard}
 use Rattle.law_theorems.proofs.Separation.{record_some}
-use Rattle.law_soundness.proofs.RecordArrays.{below_end, item_behind}
+use Rattle.jc_packages.proofs.RecordArrays.{below_end, item_behind}
 use Rattle.law_theorems.proofs.Sessions.{linked_known}
 use Rattle.law_soundness.proofs.AddedPackages.{item-push_other}
 use Rattle.law_theorems.specs.Outcomes.{memory_at}

@@ -11,7 +11,7 @@ use Rattle.jc_heap.specs.WholeHeap.{IsConsistent}
 use Rattle.jc_heap.proofs.KeepingPackages.{package_whole}
 use Rattle.jc_heap.proofs.NewPackages.{top-package}
 use Rattle.jc_heap.proofs.Packing.{length-array_addresses}
-use Rattle.law_soundness.proofs.RecordArrays.{AreInitial, arrays_whole}
+use Rattle.jc_packages.proofs.RecordArrays.{AreInitial, arrays_whole}
 
 -- bytes that are packed to these words
 abbrev spread : List ℕ → List ℕ

@@ -12,7 +12,7 @@ use Rattle.jc_heap.specs.Statics.{image_from, statics_of}
 use Rattle.jc_heap.proofs.NewPackages.{length-package_record}
 use Rattle.jc_heap.proofs.Packing.{length-array_addresses, length-packed_words, packed_words-word}
 use Rattle.jc_heap.proofs.StaticImages.{image-here, image-next, statics-walk}
-use Rattle.law_soundness.proofs.Lists.{zeros}
+use Rattle.jc_packages.proofs.Lists.{zeros}
 
 word_behind : (xs ys : List ℕ) (i : ℕ) → get_or (xs ++ ys) (length xs + i) 0 ≡ get_or ys i 0
 word_behind xs ys i = get_or-append_right xs ys (length xs) (length xs + i) 0 refl (omega arith) ∙ ap (λ n. get_or ys n 0) (omega arith)

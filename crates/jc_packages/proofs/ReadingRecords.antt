@@ -12,7 +12,7 @@ use Rattle.jc_heap.specs.Walk.{records_from}
 use Rattle.jc_heap.specs.Packed.{packed_byte, bytes_of_packed}
 use Rattle.jc_heap.specs.Statics.{IsStatic, image_from, statics_of}
 use Rattle.jc_heap.proofs.StaticImages.{static_behind, statics-walk, statics-zero}
-use Rattle.law_soundness.proofs.Lists.{byte_same, map_same}
+use Rattle.jc_packages.proofs.Lists.{byte_same, map_same}
 use Rattle.jc_packages.specs.Reading.{load_of, text_at, text_in}
 
 -- words that all belong to an earlier part begin none
