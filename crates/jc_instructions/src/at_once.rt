@@ -1,5 +1,5 @@
 //! Reads that are carried out at once, since no rule refuses them and nothing is thrown: of fields of own persistent objects, and of elements of
-//! own arrays and of the runtime environment's.
+//! own arrays and of the runtime environment's. What is not read so is read in the usual way, with the same answer.
 ghost use Rattle.std.specs.Prelude.{◌≡◌, ◌<◌, false, true, Some, IfSome};
 ghost use Rattle.jc_heap.specs.Heap.{IsObject, facts};
 ghost use Rattle.jc_memory.specs.Cells.{IsHeaderOf};
@@ -117,8 +117,8 @@ fn getfield_of<S: WordStore>(
     true
 }
 
-/// Carries out `getfield` of a field of this type, if the object is persistent, of the very class of the field, and belongs to the owner for whom code
-/// runs; says whether it did. Each type is an arm of its own, so that it is asked once.
+/// Carries out `getfield` of a field of this type, or does nothing; says whether it did. It is meant for persistent objects of the very class of the
+/// field that belong to the owner for whom code runs; no answer depends on that. Each type is an arm of its own, so that it is asked once.
 #[inline(always)]
 pub fn getfield_at_once<S: WordStore>(
     of_type: ValueType,
@@ -261,8 +261,8 @@ fn array_load_of<S: WordStore>(of_type: ValueType, frames: &mut Frames, memory: 
     true
 }
 
-/// Carries out `aaload`, `baload` or `saload`, if the array belongs to the owner for whom code runs, or is a transient one of the runtime environment, and
-/// has such an element; says whether it did. Each type of elements is an arm of its own, so that it is asked once.
+/// Carries out `aaload`, `baload` or `saload`, or does nothing; says whether it did. It is meant for arrays that belong to the owner for whom code runs
+/// or to the runtime environment; no answer depends on that. Each type of elements is an arm of its own, so that it is asked once.
 #[inline(always)]
 pub fn array_load_at_once<S: WordStore>(
     of_type: ValueType,
