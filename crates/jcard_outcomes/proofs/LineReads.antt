@@ -95,25 +95,23 @@ pub refused_on : {A F : Type 0} {Q : F → Type 0} (R : F → Type 0) (r : Resul
 refused_on R (Ok x) is to = absurd is
 refused_on R (Err fault) is to = to fault is
 
-pub ended_of_fault : {V : Type 0} (items : V → List (Bor (List ℕ))) (texts : List (List ℕ)) (lines : V) (rests left : List (Bor (List ℕ))) (k : ℕ)
-    (r : Result V JoinFault) → Reading texts (lent (items lines)) (lent rests) k → IsNextLine k (lent rests) (lent left) (Ok None)
+pub ended_of_fault : {V : Type 0} (texts : List (List ℕ)) (lines rests left : List (Bor (List ℕ))) (k : ℕ) (r : Result V JoinFault)
+    → Reading texts (lent lines) (lent rests) k → IsNextLine k (lent rests) (lent left) (Ok None)
     → IfErr r (λ f. (f ≡ Missing k) × (All (λ t. t.now ≡ []) left → ⊥)) → IfErr r (λ f. IsNextFault texts f)
-ended_of_fault items texts lines rests left k (Ok v) r n g = tt
-ended_of_fault items texts lines rests left k (Err f) r n g = subst (IsNextFault texts) (sym g.0) (none_of_fault texts (items lines) rests left k r n)
+ended_of_fault texts lines rests left k (Ok v) r n g = tt
+ended_of_fault texts lines rests left k (Err f) r n g = subst (IsNextFault texts) (sym g.0) (none_of_fault texts lines rests left k r n)
 
--- ---- the end, for lists of any kind
+-- ---- the end
 
-pub ended_read : {V : Type 0} (items : V → List (Bor (List ℕ))) (texts : List (List ℕ)) (lines : V) (rests left : List (Bor (List ℕ))) (k : ℕ)
-    (r : Result V JoinFault) → Reading texts (lent (items lines)) (lent rests) k → 0 < length texts → IsNextLine k (lent rests) (lent left) (Ok None)
-    → IfOk r (λ v. (v ≡ lines) × All (λ t. t.now ≡ []) left) → IfOk r (λ v. AreOrdered texts (lent (items v)))
-ended_read items texts lines rests left k (Ok v) r some n h =
-    subst (λ l. AreOrdered texts (lent (items l))) (sym h.0) (reads_whole texts (items lines) rests left k r some n h.1).0
-ended_read items texts lines rests left k (Err f) r some n h = tt
+pub ended_read : {V : Type 0} (texts : List (List ℕ)) (lines rests left : List (Bor (List ℕ))) (k : ℕ) (r : Result V JoinFault)
+    → Reading texts (lent lines) (lent rests) k → 0 < length texts → IsNextLine k (lent rests) (lent left) (Ok None)
+    → IfOk r (λ v. All (λ t. t.now ≡ []) left) → IfOk r (λ v. AreOrdered texts (lent lines))
+ended_read texts lines rests left k (Ok v) r some n h = (reads_whole texts lines rests left k r some n h).0
+ended_read texts lines rests left k (Err f) r some n h = tt
 
-pub ended_whole : {V : Type 0} (items : V → List (Bor (List ℕ))) (texts : List (List ℕ)) (lines : V) (rests left : List (Bor (List ℕ))) (k : ℕ)
-    (r : Result V JoinFault) → Reading texts (lent (items lines)) (lent rests) k → 0 < length texts → IsNextLine k (lent rests) (lent left) (Ok None)
-    → IfOk r (λ v. (v ≡ lines) × All (λ t. t.now ≡ []) left) → IfErr r (λ f. (f ≡ Missing k) × (All (λ t. t.now ≡ []) left → ⊥))
-    → (all : List (List ℕ)) → AreOrdered texts all → MatchResult r (λ v. lent (items v) ≡ all) (λ f. f ≡ NoMemory)
-ended_whole items texts lines rests left k (Ok v) r some n h g all o =
-    ap (λ l. lent (items l)) h.0 ∙ (reads_whole texts (items lines) rests left k r some n h.1).1 all o
-ended_whole items texts lines rests left k (Err f) r some n h g all o = absurd (reads_missing texts (items lines) rests left k r some n g.1 all o)
+pub ended_whole : {V : Type 0} (texts : List (List ℕ)) (lines rests left : List (Bor (List ℕ))) (k : ℕ) (r : Result V JoinFault)
+    → Reading texts (lent lines) (lent rests) k → 0 < length texts → IsNextLine k (lent rests) (lent left) (Ok None)
+    → IfOk r (λ v. All (λ t. t.now ≡ []) left) → IfErr r (λ f. (f ≡ Missing k) × (All (λ t. t.now ≡ []) left → ⊥))
+    → (all : List (List ℕ)) → AreOrdered texts all → MatchResult r (λ v. lent lines ≡ all) (λ f. f ≡ NoMemory)
+ended_whole texts lines rests left k (Ok v) r some n h g all o = (reads_whole texts lines rests left k r some n h).1 all o
+ended_whole texts lines rests left k (Err f) r some n h g all o = absurd (reads_missing texts lines rests left k r some n g.1 all o)

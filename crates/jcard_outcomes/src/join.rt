@@ -135,28 +135,44 @@ fn ordered<'a>(alloc: Global, texts: &[&'a [u8]]) -> Result<Vec<&'a [u8]>, JoinF
 {
     let mut rests = Vec::from_slice(alloc, texts)?;
     let mut lines = Vec::new(alloc);
+    read_lines(alloc, &mut rests, &mut lines)?;
+    Ok(lines)
+}
+
+// Reads what the lines of all parts say.
+fn read_lines<'a>(
+    alloc: Global,
+    rests: &mut Vec<&'a [u8]>,
+    lines: &mut Vec<&'a [u8]>,
+) -> Result<(), JoinFault>
+    requires some { 0 < length rests.old.items }
+    requires none { lines.old.items ≡ [] }
+    ensures read { IfOk result (λ _. AreOrdered (map (λ (t : Bor (List ℕ)). t.now) rests.old.items)
+        (map (λ (t : Bor (List ℕ)). t.now) lines.new.items)) }
+    ensures fault { IfErr result (λ fault. IsNextFault (map (λ (t : Bor (List ℕ)). t.now) rests.old.items)
+        fault) }
+    ensures whole { (all : List (List ℕ)) → AreOrdered (map (λ (t : Bor (List ℕ)). t.now) rests.old.items) all
+        → MatchResult result (λ _. map (λ (t : Bor (List ℕ)). t.now) lines.new.items ≡ all)
+        (λ fault. fault ≡ JoinFault.NoMemory) }
+{
     for number in 0..usize::MAX {
-        match next_line(alloc, &mut rests, number)? {
-            Some(told) => push_text(&mut lines, told)?,
-            None => return ended(lines, &rests, number),
+        match next_line(alloc, rests, number)? {
+            Some(told) => push_text(lines, told)?,
+            None => return ended(rests, number),
         }
     }
     // There is no memory for this many lines.
     Err(JoinFault::NoMemory)
 }
 
-// The lines before this one, if nothing is left after them.
-fn ended<'a>(
-    lines: Vec<&'a [u8]>,
-    rests: &[&[u8]],
-    number: usize,
-) -> Result<Vec<&'a [u8]>, JoinFault>
-    ensures whole { IfOk result (λ r. (r ≡ lines.entry) × All (λ t. t.now ≡ []) rests.now) }
+// Whether nothing is left after the lines before this one.
+fn ended(rests: &[&[u8]], number: usize) -> Result<(), JoinFault>
+    ensures whole { IfOk result (λ _. All (λ t. t.now ≡ []) rests.now) }
     ensures missing { IfErr result (λ fault. (fault ≡ JoinFault.Missing number)
         × (All (λ t. t.now ≡ []) rests.now → ⊥)) }
 {
     if are_empty(rests) {
-        return Ok(lines);
+        return Ok(());
     }
     Err(JoinFault::Missing(number))
 }
@@ -234,16 +250,31 @@ fn cuts_of(alloc: Global, lines: &[&[u8]]) -> Result<Vec<Cut>, JoinFault>
         (λ fault. fault ≡ JoinFault.NoMemory) }
 {
     let mut cuts = Vec::new(alloc);
+    push_cuts(alloc, lines, &mut cuts)?;
+    Ok(cuts)
+}
+
+fn push_cuts(alloc: Global, lines: &[&[u8]], cuts: &mut Vec<Cut>) -> Result<(), JoinFault>
+    requires plain { All (λ t. has 10 t ≡ false) (map (λ (t : Bor (List ℕ)). t.now) lines.now) }
+    requires none { cuts.old.items ≡ [] }
+    ensures told { IfOk result (λ _. TellCuts (map (λ (t : Bor (List ℕ)). t.now) lines.now)
+        cuts.new.items) }
+    ensures fault { IfErr result (λ fault. IsNoCut (map (λ (t : Bor (List ℕ)). t.now) lines.now) fault) }
+    ensures whole { (all : List ACut) (uncut : List ℕ) (parts : ℕ)
+        → AreTold all uncut parts (map (λ (t : Bor (List ℕ)). t.now) lines.now)
+        → MatchResult result (λ _. map told_cut cuts.new.items ≡ map told_cut all)
+        (λ fault. fault ≡ JoinFault.NoMemory) }
+{
     for (number, told) in lines.iter().enumerate() {
         if is_uncut(told) {
-            return Ok(cuts);
+            return Ok(());
         }
         match cut_of(alloc, told)? {
-            Some(cut) => push_cut(&mut cuts, cut)?,
+            Some(cut) => push_cut(cuts, cut)?,
             None => return Err(JoinFault::BadLine(number)),
         }
     }
-    Ok(cuts)
+    Ok(())
 }
 
 fn push_cut(cuts: &mut Vec<Cut>, cut: Cut) -> Result<(), JoinFault>

@@ -4,7 +4,7 @@ use Rattle.std.specs.List.{All}
 use Rattle.jcard_outcomes.specs.Join.{AreTold}
 use Rattle.jcard_outcomes.specs.Part.{IsReadCut, told_cut}
 use Rattle.jcard_outcomes.specs.declared.standing.Cut.{Cut}
-use Rattle.jcard_outcomes.proofs.join.cuts_of.Given as goal
+use Rattle.jcard_outcomes.proofs.join.push_cuts.Given as goal
 
 abbrev pub invariant-loop-number : goal.invariant-loop-number
 invariant-loop-number l = record {

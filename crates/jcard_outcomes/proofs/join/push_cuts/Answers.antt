@@ -1,5 +1,5 @@
 use Rattle.jcard_outcomes.proofs.CutLines.{bad_line, behind_next, cut_next, cuts_told, cuts_whole, lacking_next, line_plain, no_line}
-use Rattle.jcard_outcomes.proofs.join.cuts_of.Goals as goal
+use Rattle.jcard_outcomes.proofs.join.push_cuts.Goals as goal
 
 pub returns-then-is_uncut-clause-told : goal.returns-then-is_uncut-clause-told
 returns-then-is_uncut-clause-told c = cuts_told c.args.lines.now c.loop-number.number c.loop-number.cuts.items c.loop-number-test.true
@@ -10,7 +10,7 @@ returns-then-is_uncut-clause-whole c = λ cuts u n t. cuts_whole c.args.lines.no
     c.loop-number.invariant.told c.if-is_uncut.ensures cuts u n t (c.loop-number.invariant.behind cuts u n t)
 
 pub cut_of-requires : goal.cut_of-requires
-cut_of-requires c = line_plain c.args.lines.now c.loop-number.number c.loop-number-test.true c.requires
+cut_of-requires c = line_plain c.args.lines.now c.loop-number.number c.loop-number-test.true c.requires.plain
 
 pub returns-in-None-clause-whole : goal.returns-in-None-clause-whole
 returns-in-None-clause-whole c = λ cuts u n t. absurd (no_line c.args.lines.now c.loop-number.number c.loop-number-test.true c.if-is_uncut.ensures
