@@ -21,8 +21,8 @@ pub stays_plain : (a : App) (rules : List Rule) → (with_rules a rules).top.is_
 stays_plain a [] = refl
 stays_plain a (rule ∷ rules) = stays_plain (with_rule a rule) rules
 
-pub is_plain : (command : App) (all others : List Usage) (usage : Usage) → all ≡ usage ∷ others → command ≡ grammar_of usage → command.top.is_plain ≡ true
-is_plain command all others usage whole same = ap (λ (a : App). a.top.is_plain) same ∙ stays_plain (new_app usage.name.now) (rules_of usage.entries.now)
+pub is_plain : (command : App) (usage : Usage) → command ≡ grammar_of usage → command.top.is_plain ≡ true
+is_plain command usage same = ap (λ (a : App). a.top.is_plain) same ∙ stays_plain (new_app usage.name.now) (rules_of usage.entries.now)
 
 -- no command is left
 pub no_commands : (a : App) (all : List Usage) → length all ≡ 0 → a ≡ with_commands a (grammars_of all)
@@ -30,8 +30,7 @@ no_commands a [] e = refl
 no_commands a (x ∷ xs) e = absurd (omega arith)
 
 -- the first command, and then the others
-pub more_commands : (a b c command : App) (all others : List Usage) (usage : Usage) → all ≡ usage ∷ others → command ≡ grammar_of usage
-    → b ≡ with_subcommand a command.top → c ≡ with_commands b (grammars_of others) → c ≡ with_commands a (grammars_of all)
-more_commands a b c command all others usage whole same one rest = rest
-    ∙ ap (λ (d : App). with_commands d (grammars_of others)) (one ∙ ap (λ (g : App). with_subcommand a g.top) same)
+pub more_commands : (a b c : App) (all others : List Usage) (usage : Usage) → all ≡ usage ∷ others → b ≡ with_subcommand a (grammar_of usage).top
+    → c ≡ with_commands b (grammars_of others) → c ≡ with_commands a (grammars_of all)
+more_commands a b c all others usage whole one rest = rest ∙ ap (λ (d : App). with_commands d (grammars_of others)) one
     ∙ sym (ap (λ (us : List Usage). with_commands a (grammars_of us)) whole)

@@ -383,18 +383,26 @@ fn with_commands<'a>(
     let Some((usage, others)) = usages.split_first() else {
         return Ok(program);
     };
-    let command = command(alloc, *usage)?;
-    let program = with_command(program, command)?;
+    let program = with_usage(alloc, program, *usage)?;
     with_commands(alloc, program, others)
 }
 
 // The program with one command more.
-fn with_command<'a>(program: Command<'a>, command: Command<'a>) -> Result<Command<'a>, AllocError>
-    requires { (app_of command).top.is_plain ≡ true }
+fn with_usage<'a>(
+    alloc: Global,
+    program: Command<'a>,
+    usage: Usage<'a>,
+) -> Result<Command<'a>, AllocError>
     ensures { IfOk result (λ c. app_of c ≡ with_subcommand (app_of program.entry)
-        (app_of command.entry).top) }
+        (grammar_of usage.entry).top) }
 {
-    program.subcommand(command)
+    match command(alloc, usage) {
+        Ok(command) => program.subcommand(command),
+        Err(fault) => {
+            drop(program);
+            Err(fault)
+        }
+    }
 }
 
 // A command with its entries.
