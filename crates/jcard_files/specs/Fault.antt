@@ -13,6 +13,8 @@ use Rattle.jcard_files.specs.declared.fault.Fault.TheVariants.{CannotWrite, NotR
 use Rattle.jcard_files.specs.declared.fault.Fault.TheVariants.{Down, NoCommand, TooManyCuts, NotAllOrNothing, TooManyInstructions, FaultAccepted}
 use Rattle.jcard_files.specs.declared.fault.Fault.TheVariants.{CannotInclude, RowsFailed, OtherAnswer, NothingExpected}
 use Rattle.jcard_files.specs.declared.fault.Fault.TheVariants.{BadApdu, BadCut, BadJournal, BadTransient, BadProbeCommand, ProbeTooLong, BadPart, CutMissing, CutTwice, OtherPart, OtherSweep, ShareMissing, ShareTwice, BadShare}
+use Rattle.jcard_files.specs.declared.fault.LastLine.{LastLine}
+use Rattle.jcard_files.specs.declared.fault.LastLine.TheVariants.{Fixed, Named, Numbered, Unincluded}
 
 -- the exit status
 abbrev pub status_of : Result Unit Fault → ℕ
@@ -138,6 +140,13 @@ line_of (ShareMissing k) = share_line k (codes " is missing\n")
 line_of (ShareTwice k) = share_line k (codes " stands twice\n")
 line_of (BadShare k) = share_line k (codes " is told in no known form\n")
 line_of (OtherPart path) = codes "jcard: " ++ path.now ++ codes " is of another sweep\n"
+
+-- the text of a last line
+abbrev pub text_of : LastLine → List ℕ
+text_of (Fixed text) = text.now
+text_of (Named start name end) = start.now ++ name.now ++ end.now
+text_of (Numbered start number end) = start.now ++ decimal number ++ end.now
+text_of (Unincluded path number) = unincluded_text path.now number
 
 -- whether a write of what was asked for failed
 abbrev pub is_unwritten : Result Unit Fault → Bool

@@ -3,7 +3,7 @@ ghost use Rattle.std.specs.Prelude.{◌≡◌, ℕ, List, Bool, is_err, MatchRes
 ghost use Rattle.std.specs.Io.KnownBytes.{Appends};
 ghost use Rattle.jcard_texts.specs.Texts.{AppendsCut};
 ghost use Rattle.jc_words.specs.Count.{failures_after};
-ghost use Rattle.jcard_files.specs.Fault.{check_of, cut_line, ending_of, status_of, line_of, part_line, share_line, share_number, unincluded_text, unread_text, IsLastLine};
+ghost use Rattle.jcard_files.specs.Fault.{check_of, ending_of, status_of, line_of, share_number, text_of, unincluded_text, IsLastLine};
 
 use itoa::Buffer;
 use jcard_texts::streams::{TextOut, WriteFailed, write_all, write_parts};
@@ -133,7 +133,7 @@ pub fn tell<W: TextOut>(ended: Result<(), Fault>, out: &mut W) -> u8
     let Err(fault) = ended else {
         return 0;
     };
-    let _ = write_line(fault, out);
+    let _ = write_line(line_of(fault), out);
     match fault {
         Fault::BadCommandLine => 2,
         Fault::NotAllOrNothing | Fault::FaultAccepted => 3,
@@ -142,95 +142,104 @@ pub fn tell<W: TextOut>(ended: Result<(), Fault>, out: &mut W) -> u8
     }
 }
 
-fn write_line<W: TextOut>(fault: Fault, out: &mut W) -> Result<(), WriteFailed>
-    ensures text { MatchResult result
-        (λ _. Appends (W.contents out.old) (W.contents out.new) (line_of fault.entry))
-        (λ _. AppendsCut (W.contents out.old) (W.contents out.new) (line_of fault.entry)) }
-    ensures count { W.failures out.new ≡ failures_after (W.failures out.old) (is_err result) }
+// What the last line says.
+#[derive(Clone, Copy, Drop)]
+enum LastLine<'a> {
+    // This text.
+    Fixed(&'static [u8]),
+    // A name between these texts.
+    Named(&'static [u8], &'a str, &'static [u8]),
+    // A number between them.
+    Numbered(&'static [u8], usize, &'static [u8]),
+    // A file cannot be read that this line of this file includes.
+    Unincluded(&'a str, usize),
+}
+
+fn line_of(fault: Fault<'_>) -> LastLine<'_>
+    ensures { text_of result ≡ line_of fault.entry }
 {
-    let mut digits = Buffer::new();
     match fault {
-        Fault::BadCommandLine => write_all(out, b"jcard: bad command line\n"),
-        Fault::NoMemory => write_all(out, b"jcard: no memory\n"),
-        Fault::BadWords => write_all(out, b"jcard: words must be 4096 to 65535\n"),
-        Fault::BadJournal => write_all(out, b"jcard: journal must be 16 to 1024\n"),
-        Fault::BadTransient => write_all(out, b"jcard: transient must be 2048 to 16384\n"),
-        Fault::BadApdu => write_all(out, b"jcard: apdu must be 261 to 32767\n"),
-        Fault::BadTable(n) => write_parts(
-            out,
-            b"jcard: bad table line ",
-            digits.format(n).as_bytes(),
+        Fault::BadCommandLine => LastLine::Fixed(b"jcard: bad command line\n"),
+        Fault::NoMemory => LastLine::Fixed(b"jcard: no memory\n"),
+        Fault::BadWords => LastLine::Fixed(b"jcard: words must be 4096 to 65535\n"),
+        Fault::BadJournal => LastLine::Fixed(b"jcard: journal must be 16 to 1024\n"),
+        Fault::BadTransient => LastLine::Fixed(b"jcard: transient must be 2048 to 16384\n"),
+        Fault::BadApdu => LastLine::Fixed(b"jcard: apdu must be 261 to 32767\n"),
+        Fault::BadTable(n) => LastLine::Numbered(b"jcard: bad table line ", usize::from(n), b"\n"),
+        Fault::ImageTooSmall => LastLine::Fixed(b"jcard: image too small\n"),
+        Fault::CannotRead(path) | Fault::CannotOpenToWrite(path) => LastLine::Named(
+            b"jcard: cannot read ",
+            path,
             b"\n",
         ),
-        Fault::ImageTooSmall => write_all(out, b"jcard: image too small\n"),
-        Fault::CannotRead(path) => write_unread(path, out),
-        Fault::CannotOpenToWrite(path) => write_unread(path, out),
-        Fault::CannotWrite(path) => {
-            write_parts(out, b"jcard: cannot write ", path.as_bytes(), b"\n")
-        }
-        Fault::NotReplaced(path, kind) => {
-            write_parts(out, b"jcard: ", path.as_bytes(), ending_of(kind))
-        }
-        Fault::ImageInUse => write_all(out, b"jcard: image in use\n"),
-        Fault::BadImage(damage) => write_parts(
-            out,
+        Fault::CannotWrite(path) => LastLine::Named(b"jcard: cannot write ", path, b"\n"),
+        Fault::NotReplaced(path, kind) => LastLine::Named(b"jcard: ", path, ending_of(kind)),
+        Fault::ImageInUse => LastLine::Fixed(b"jcard: image in use\n"),
+        Fault::BadImage(damage) => LastLine::Numbered(
             b"jcard: bad image ",
-            digits.format(number_of(damage)).as_bytes(),
+            number_of(damage),
             b"\n",
         ),
-        Fault::BadCommand(n) => write_parts(
-            out,
-            b"jcard: line ",
-            digits.format(n).as_bytes(),
-            b": bad command\n",
-        ),
-        Fault::ScriptTooLong => write_all(out, b"jcard: script too long\n"),
-        Fault::BadProbeCommand(n) => write_parts(
-            out,
+        Fault::BadCommand(n) => LastLine::Numbered(b"jcard: line ", n as usize, b": bad command\n"),
+        Fault::ScriptTooLong => LastLine::Fixed(b"jcard: script too long\n"),
+        Fault::BadProbeCommand(n) => LastLine::Numbered(
             b"jcard: probe line ",
-            digits.format(n).as_bytes(),
+            n as usize,
             b": bad command\n",
         ),
-        Fault::ProbeTooLong => write_all(out, b"jcard: probe too long\n"),
-        Fault::Down => write_all(out, b"jcard: the card is down at the command\n"),
-        Fault::NoCommand => write_all(out, b"jcard: no command to cut\n"),
-        Fault::TooManyCuts => write_all(out, b"jcard: more than 65535 cuts\n"),
-        Fault::TooManyInstructions => write_all(out, b"jcard: more than 1000000 instructions\n"),
-        Fault::CannotInclude(path, number) => write_unincluded(path, number, out),
-        Fault::OtherAnswer(n) => write_parts(
-            out,
+        Fault::ProbeTooLong => LastLine::Fixed(b"jcard: probe too long\n"),
+        Fault::Down => LastLine::Fixed(b"jcard: the card is down at the command\n"),
+        Fault::NoCommand => LastLine::Fixed(b"jcard: no command to cut\n"),
+        Fault::TooManyCuts => LastLine::Fixed(b"jcard: more than 65535 cuts\n"),
+        Fault::TooManyInstructions => LastLine::Fixed(b"jcard: more than 1000000 instructions\n"),
+        Fault::CannotInclude(path, number) => LastLine::Unincluded(path, number),
+        Fault::OtherAnswer(n) => LastLine::Numbered(
             b"jcard: line ",
-            digits.format(n).as_bytes(),
+            n as usize,
             b": another answer than expected\n",
         ),
-        Fault::NothingExpected => write_all(out, b"jcard: no answer is expected\n"),
-        Fault::BadPart => write_all(out, b"jcard: part must be 1/N to N/N\n"),
-        Fault::CutMissing(k) => write_cut(out, k, b" is missing\n"),
-        Fault::CutTwice(k) => write_cut(out, k, b" stands twice\n"),
-        Fault::BadCut(k) => write_cut(out, k, b" is told in no known form\n"),
-        Fault::OtherSweep(k) => write_cut(out, k, b" is of another sweep\n"),
-        Fault::ShareMissing(k) => write_share(out, k, b" is missing\n"),
-        Fault::ShareTwice(k) => write_share(out, k, b" stands twice\n"),
-        Fault::BadShare(k) => write_share(out, k, b" is told in no known form\n"),
-        Fault::OtherPart(path) => write_parts(
-            out,
-            b"jcard: ",
-            path.as_bytes(),
-            b" is of another sweep\n",
+        Fault::NothingExpected => LastLine::Fixed(b"jcard: no answer is expected\n"),
+        Fault::BadPart => LastLine::Fixed(b"jcard: part must be 1/N to N/N\n"),
+        Fault::CutMissing(k) => LastLine::Numbered(b"jcard: cut ", k, b" is missing\n"),
+        Fault::CutTwice(k) => LastLine::Numbered(b"jcard: cut ", k, b" stands twice\n"),
+        Fault::BadCut(k) => LastLine::Numbered(b"jcard: cut ", k, b" is told in no known form\n"),
+        Fault::OtherSweep(k) => LastLine::Numbered(b"jcard: cut ", k, b" is of another sweep\n"),
+        Fault::ShareMissing(k) => LastLine::Numbered(
+            b"jcard: part ",
+            share_number(k),
+            b" is missing\n",
         ),
+        Fault::ShareTwice(k) => LastLine::Numbered(
+            b"jcard: part ",
+            share_number(k),
+            b" stands twice\n",
+        ),
+        Fault::BadShare(k) => LastLine::Numbered(
+            b"jcard: part ",
+            share_number(k),
+            b" is told in no known form\n",
+        ),
+        Fault::OtherPart(path) => LastLine::Named(b"jcard: ", path, b" is of another sweep\n"),
         Fault::WriteFailed | Fault::NotAllOrNothing | Fault::FaultAccepted | Fault::RowsFailed =>
-            Ok(()),
+            LastLine::Fixed(b""),
     }
 }
 
-// Writes that the file with this name cannot be read.
-fn write_unread<W: TextOut>(path: &str, out: &mut W) -> Result<(), WriteFailed>
+fn write_line<W: TextOut>(line: LastLine, out: &mut W) -> Result<(), WriteFailed>
     ensures text { MatchResult result
-        (λ _. Appends (W.contents out.old) (W.contents out.new) (unread_text path.now))
-        (λ _. AppendsCut (W.contents out.old) (W.contents out.new) (unread_text path.now)) }
+        (λ _. Appends (W.contents out.old) (W.contents out.new) (text_of line.entry))
+        (λ _. AppendsCut (W.contents out.old) (W.contents out.new) (text_of line.entry)) }
     ensures count { W.failures out.new ≡ failures_after (W.failures out.old) (is_err result) }
 {
-    write_parts(out, b"jcard: cannot read ", path.as_bytes(), b"\n")
+    match line {
+        LastLine::Fixed(text) => write_all(out, text),
+        LastLine::Named(start, name, end) => write_parts(out, start, name.as_bytes(), end),
+        LastLine::Numbered(start, number, end) => {
+            let mut digits = Buffer::new();
+            write_parts(out, start, digits.format(number).as_bytes(), end)
+        }
+        LastLine::Unincluded(path, number) => write_unincluded(path, number, out),
+    }
 }
 
 // Writes that a file cannot be read that the line of this number in the file with this name includes.
@@ -251,45 +260,11 @@ fn write_unincluded<W: TextOut>(path: &str, number: usize, out: &mut W) -> Resul
     )
 }
 
-// Writes what is wrong with what parts report of a cut.
-fn write_cut<W: TextOut>(out: &mut W, number: usize, wrong: &[u8]) -> Result<(), WriteFailed>
-    ensures text { MatchResult result
-        (λ _. Appends (W.contents out.old) (W.contents out.new) (cut_line number wrong.now))
-        (λ _. AppendsCut (W.contents out.old) (W.contents out.new) (cut_line number wrong.now)) }
-    ensures count { W.failures out.new ≡ failures_after (W.failures out.old) (is_err result) }
-{
-    let mut digits = Buffer::new();
-    let digits = digits.format(number).as_bytes();
-    write_parts(out, b"jcard: cut ", digits, wrong)
-}
-
 // The number of a share, counted from 1.
 fn share_number(number: usize) -> usize
     ensures { result ≡ share_number number }
 {
     number.saturating_add(1)
-}
-
-// Writes what is wrong with what parts report of a share, which is counted from 1 there.
-fn write_share<W: TextOut>(out: &mut W, number: usize, wrong: &[u8]) -> Result<(), WriteFailed>
-    ensures text { MatchResult result
-        (λ _. Appends (W.contents out.old) (W.contents out.new) (share_line number wrong.now))
-        (λ _. AppendsCut (W.contents out.old) (W.contents out.new) (share_line number wrong.now)) }
-    ensures count { W.failures out.new ≡ failures_after (W.failures out.old) (is_err result) }
-{
-    write_part(out, share_number(number), wrong)
-}
-
-// Writes what is wrong with what the part of this number says.
-fn write_part<W: TextOut>(out: &mut W, number: usize, wrong: &[u8]) -> Result<(), WriteFailed>
-    ensures text { MatchResult result
-        (λ _. Appends (W.contents out.old) (W.contents out.new) (part_line number wrong.now))
-        (λ _. AppendsCut (W.contents out.old) (W.contents out.new) (part_line number wrong.now)) }
-    ensures count { W.failures out.new ≡ failures_after (W.failures out.old) (is_err result) }
-{
-    let mut digits = Buffer::new();
-    let digits = digits.format(number).as_bytes();
-    write_parts(out, b"jcard: part ", digits, wrong)
 }
 
 // The end of the line that says what a file is.
@@ -306,7 +281,7 @@ fn ending_of(kind: FileKind) -> &'static [u8]
 }
 
 // The number of the check that finds a damage.
-fn number_of(damage: Damage) -> u8
+fn number_of(damage: Damage) -> usize
     ensures { result ≡ check_of damage }
 {
     match damage {
