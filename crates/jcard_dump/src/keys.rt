@@ -1,5 +1,5 @@
 //! The lines of keys.
-ghost use Rattle.std.specs.Prelude.{◌≡◌, ◌++◌, codes, length, OnOk};
+ghost use Rattle.std.specs.Prelude.{◌≡◌, ◌++◌, codes, decimal, length, MatchOption, OnOk};
 ghost use Rattle.jcard_dump.specs.Image.{IsObjectIn, cells_in};
 ghost use Rattle.jcard_dump.specs.Keys.{found_text, is_pair_type, key_text, pair_text, set_text, size_text, type_text};
 
@@ -38,42 +38,54 @@ pub(crate) fn push_key<S: WordStore>(
     push_reference(text, array)
 }
 
-// Writes KeyBuilder's name of a type of keys of pairs, or its number.
-#[tactic(auto, unfolding(crate::specs::Keys::pair_text))]
-fn push_pair_type(text: &mut Vec<u8>, number: u16) -> Result<(), AllocError>
-    ensures { OnOk result (text.new.items ≡ text.old.items ++ pair_text number) }
-{
-    match number {
-        4 => text.extend_from_slice(b"RSA_PUBLIC"),
-        5 => text.extend_from_slice(b"RSA_PRIVATE"),
-        6 => text.extend_from_slice(b"RSA_CRT_PRIVATE"),
-        11 => text.extend_from_slice(b"EC_FP_PUBLIC"),
-        12 => text.extend_from_slice(b"EC_FP_PRIVATE"),
-        22 => text.extend_from_slice(b"RSA_PRIVATE_TRANSIENT_RESET"),
-        23 => text.extend_from_slice(b"RSA_PRIVATE_TRANSIENT_DESELECT"),
-        24 => text.extend_from_slice(b"RSA_CRT_PRIVATE_TRANSIENT_RESET"),
-        25 => text.extend_from_slice(b"RSA_CRT_PRIVATE_TRANSIENT_DESELECT"),
-        30 => text.extend_from_slice(b"EC_FP_PRIVATE_TRANSIENT_RESET"),
-        31 => text.extend_from_slice(b"EC_FP_PRIVATE_TRANSIENT_DESELECT"),
-        _ => push_number(text, number),
-    }
-}
-
 // Writes KeyBuilder's name of a type of keys, or its number.
 fn push_type(text: &mut Vec<u8>, number: u16) -> Result<(), AllocError>
     ensures { OnOk result (text.new.items ≡ text.old.items ++ type_text number) }
 {
+    match type_name(number) {
+        Some(name) => text.extend_from_slice(name),
+        None => push_number(text, number),
+    }
+}
+
+// KeyBuilder's name of a type of keys.
+fn type_name(number: u16) -> Option<&'static [u8]>
+    ensures { MatchOption result (type_text number ≡ decimal number)
+        (λ name. type_text number ≡ name.now) }
+{
     match number {
-        1 => text.extend_from_slice(b"DES_TRANSIENT_RESET"),
-        2 => text.extend_from_slice(b"DES_TRANSIENT_DESELECT"),
-        3 => text.extend_from_slice(b"DES"),
-        13 => text.extend_from_slice(b"AES_TRANSIENT_RESET"),
-        14 => text.extend_from_slice(b"AES_TRANSIENT_DESELECT"),
-        15 => text.extend_from_slice(b"AES"),
-        19 => text.extend_from_slice(b"HMAC_TRANSIENT_RESET"),
-        20 => text.extend_from_slice(b"HMAC_TRANSIENT_DESELECT"),
-        21 => text.extend_from_slice(b"HMAC"),
-        _ => push_pair_type(text, number),
+        1 => Some(b"DES_TRANSIENT_RESET"),
+        2 => Some(b"DES_TRANSIENT_DESELECT"),
+        3 => Some(b"DES"),
+        13 => Some(b"AES_TRANSIENT_RESET"),
+        14 => Some(b"AES_TRANSIENT_DESELECT"),
+        15 => Some(b"AES"),
+        19 => Some(b"HMAC_TRANSIENT_RESET"),
+        20 => Some(b"HMAC_TRANSIENT_DESELECT"),
+        21 => Some(b"HMAC"),
+        _ => pair_type_name(number),
+    }
+}
+
+// KeyBuilder's name of a type of keys of pairs.
+#[tactic(auto, unfolding(crate::specs::Keys::pair_text))]
+fn pair_type_name(number: u16) -> Option<&'static [u8]>
+    ensures { MatchOption result (pair_text number ≡ decimal number)
+        (λ name. pair_text number ≡ name.now) }
+{
+    match number {
+        4 => Some(b"RSA_PUBLIC"),
+        5 => Some(b"RSA_PRIVATE"),
+        6 => Some(b"RSA_CRT_PRIVATE"),
+        11 => Some(b"EC_FP_PUBLIC"),
+        12 => Some(b"EC_FP_PRIVATE"),
+        22 => Some(b"RSA_PRIVATE_TRANSIENT_RESET"),
+        23 => Some(b"RSA_PRIVATE_TRANSIENT_DESELECT"),
+        24 => Some(b"RSA_CRT_PRIVATE_TRANSIENT_RESET"),
+        25 => Some(b"RSA_CRT_PRIVATE_TRANSIENT_DESELECT"),
+        30 => Some(b"EC_FP_PRIVATE_TRANSIENT_RESET"),
+        31 => Some(b"EC_FP_PRIVATE_TRANSIENT_DESELECT"),
+        _ => None,
     }
 }
 
