@@ -29,35 +29,33 @@ pub fn answer(alloc: Global, line: &str) -> Result<String, AllocError> {
 fn answer_of(alloc: Global, words: &[&str]) -> Result<String, AllocError> {
     match words {
         ["curve", rest @ ..] => curve_case(alloc, rest),
-        ["rsa-prime", candidate, bases] => rsa_prime(alloc, candidate, bases),
-        ["rsa-power", modulus, exponent, message] => rsa_power(alloc, modulus, exponent, message),
-        ["rsa-key", seed, exponent, size] => rsa_key(alloc, seed, exponent, size),
-        ["rsa-crt", p, q, dp, dq, q_inverse, message] => {
-            rsa_crt(alloc, [p, q, dp, dq, q_inverse, message])
+        [_, _, _] => case_of_two(alloc, words[0], words[1], words[2]),
+        [_, _, _, _] => case_of_three(alloc, words[0], words[1], words[2], words[3]),
+        [_, _, _, _, _] => {
+            block_or_keyed_digest(alloc, words[0], words[1], words[2], words[3], words[4])
         }
-        [kind, first, last] => short_case(alloc, kind, first, last),
-        ["digest", name, cuts, message] => digest(alloc, name, cuts, message),
-        [kind, number, other, modulus] => modular_case(alloc, kind, number, other, modulus),
-        [kind, name, second, third, last] => {
-            block_or_keyed_digest(alloc, kind, name, second, third, last)
-        }
-        [code, name, padding, key, cuts, message] => {
-            code_of(alloc, [code, name, padding, key], cuts, message)
-        }
-        [mode, name, way, padding, key, first, cuts, message] => through_mode(
+        [_, _, _, _, _, _] => code_of(
             alloc,
-            [mode, name, way, padding, key, first],
-            cuts,
-            message,
+            [words[0], words[1], words[2], words[3]],
+            words[4],
+            words[5],
+        ),
+        ["rsa-crt", rest @ ..] => rsa_crt(alloc, rest),
+        [_, _, _, _, _, _, _, _] => through_mode(
+            alloc,
+            [words[0], words[1], words[2], words[3], words[4], words[5]],
+            words[6],
+            words[7],
         ),
         _ => Ok(String::new(alloc)),
     }
 }
 
-fn short_case(alloc: Global, kind: &str, first: &str, last: &str) -> Result<String, AllocError> {
+fn case_of_two(alloc: Global, kind: &str, first: &str, last: &str) -> Result<String, AllocError> {
     match kind {
         "crc16" => crc16(alloc, first, last),
         "crc32" => crc32(alloc, first, last),
+        "rsa-prime" => rsa_prime(alloc, first, last),
         "time" => hex::encode(alloc, timed(first, last.parse::<u32>().unwrap_or(0))),
         _ => Ok(String::new(alloc)),
     }
@@ -71,16 +69,19 @@ fn timed(name: &str, count: u32) -> [u8; 8] {
     }
 }
 
-fn modular_case(
+fn case_of_three(
     alloc: Global,
     kind: &str,
-    number: &str,
-    other: &str,
-    modulus: &str,
+    first: &str,
+    second: &str,
+    last: &str,
 ) -> Result<String, AllocError> {
     match kind {
-        "power" | "product" | "forms" | "inverse" => modular(alloc, kind, number, other, modulus),
-        "divide" | "invert" => divided(alloc, kind, number, modulus),
+        "digest" => digest(alloc, first, second, last),
+        "power" | "product" | "forms" | "inverse" => modular(alloc, kind, first, second, last),
+        "divide" | "invert" => divided(alloc, kind, first, last),
+        "rsa-power" => rsa_power(alloc, first, second, last),
+        "rsa-key" => rsa_key(alloc, first, second, last),
         _ => Ok(String::new(alloc)),
     }
 }

@@ -2,7 +2,7 @@
 
 ghost use Rattle.std.specs.Prelude.{◌≤◌, length};
 
-use crate::words::bytes;
+use crate::words::{bytes, bytes_of_all};
 use jc_curves::agreement::agree;
 use jc_curves::curves::{Curve, MOST_BYTES};
 use jc_curves::der::{MOST_ENCODING, decode, encode};
@@ -17,12 +17,12 @@ const MOST_POINT: usize = 133;
 /// The answer of a case. It is empty where no curve has the name, a number has more than 66 bytes, or the call refuses.
 pub fn curve_case(alloc: Global, words: &[&str]) -> Result<String, AllocError> {
     match words {
-        ["encode", r, s] => encoded(alloc, r, s),
-        ["decode", encoding] => decoded(alloc, encoding),
-        ["public", name, private] => public(alloc, name, private),
-        [kind, name, number, point] => of_point(alloc, kind, name, number, point),
-        ["sign", name, private, digest, nonce] => signed(alloc, name, private, digest, nonce),
-        ["verify", name, public, digest, r, s] => verified(alloc, name, [public, digest, r, s]),
+        ["encode", _, _] => encoded(alloc, words[1], words[2]),
+        ["decode", _] => decoded(alloc, words[1]),
+        ["public", _, _] => public(alloc, words[1], words[2]),
+        ["sign", _, rest @ ..] => signed(alloc, words[1], rest),
+        ["verify", _, rest @ ..] => verified(alloc, words[1], rest),
+        [_, _, _, _] => of_point(alloc, words[0], words[1], words[2], words[3]),
         _ => Ok(String::new(alloc)),
     }
 }
@@ -117,61 +117,55 @@ fn agreed(alloc: Global, curve: &Curve, number: &[u8], point: &[u8]) -> Result<S
     }
 }
 
-fn signed(
-    alloc: Global,
-    name: &str,
-    private: &str,
-    digest: &str,
-    nonce: &str,
-) -> Result<String, AllocError> {
-    let private = bytes(alloc, private)?;
-    let digest = bytes(alloc, digest)?;
-    let nonce = bytes(alloc, nonce)?;
-    let Some(curve) = curve(name) else {
-        return Ok(String::new(alloc));
-    };
-    if private.len() > MOST_BYTES || nonce.len() > MOST_BYTES {
+fn signed(alloc: Global, name: &str, words: &[&str]) -> Result<String, AllocError> {
+    let parts = bytes_of_all(alloc, words)?;
+    match curve(name) {
+        Some(curve) => signature_of(alloc, &curve, parts.as_slice()),
+        None => Ok(String::new(alloc)),
+    }
+}
+
+// The signature under a private key, of a digest, by a nonce.
+fn signature_of(alloc: Global, curve: &Curve, parts: &[Vec<u8>]) -> Result<String, AllocError> {
+    if parts.len() != 3 || parts[0].len() > MOST_BYTES || parts[2].len() > MOST_BYTES {
         return Ok(String::new(alloc));
     }
     let size = curve.order_length();
-    let mut r = [0; MOST_BYTES];
-    let r = &mut r[..size];
-    let mut s = [0; MOST_BYTES];
-    let s = &mut s[..size];
-    match sign(
-        &curve,
-        private.as_slice(),
-        digest.as_slice(),
-        nonce.as_slice(),
+    let mut to = [0; 2 * MOST_BYTES];
+    let (r, s) = to[..2 * size].split_at_mut(size);
+    let made = sign(
+        curve,
+        parts[0].as_slice(),
+        parts[1].as_slice(),
+        parts[2].as_slice(),
         r,
         s,
-    ) {
-        Ok(()) => {
-            let mut text = hex::encode(alloc, &*r)?;
-            text.push_str(hex::encode(alloc, &*s)?.as_str())?;
-            Ok(text)
-        }
+    );
+    match made {
+        Ok(()) => hex::encode(alloc, &to[..2 * size]),
         Err(_) => Ok(String::new(alloc)),
     }
 }
 
-fn verified(alloc: Global, name: &str, words: [&str; 4]) -> Result<String, AllocError> {
-    let public = bytes(alloc, words[0])?;
-    let digest = bytes(alloc, words[1])?;
-    let r = bytes(alloc, words[2])?;
-    let s = bytes(alloc, words[3])?;
-    let Some(curve) = curve(name) else {
-        return Ok(String::new(alloc));
-    };
-    if r.len() > MOST_BYTES || s.len() > MOST_BYTES {
+fn verified(alloc: Global, name: &str, words: &[&str]) -> Result<String, AllocError> {
+    let parts = bytes_of_all(alloc, words)?;
+    match curve(name) {
+        Some(curve) => is_verified(alloc, &curve, parts.as_slice()),
+        None => Ok(String::new(alloc)),
+    }
+}
+
+// Whether under a public key, of a digest, two numbers are the signature.
+fn is_verified(alloc: Global, curve: &Curve, parts: &[Vec<u8>]) -> Result<String, AllocError> {
+    if parts.len() != 4 || parts[2].len() > MOST_BYTES || parts[3].len() > MOST_BYTES {
         return Ok(String::new(alloc));
     }
     let holds = verify(
-        &curve,
-        public.as_slice(),
-        digest.as_slice(),
-        r.as_slice(),
-        s.as_slice(),
+        curve,
+        parts[0].as_slice(),
+        parts[1].as_slice(),
+        parts[2].as_slice(),
+        parts[3].as_slice(),
     );
     String::from_str(alloc, if holds { "true" } else { "false" })
 }

@@ -37,8 +37,13 @@ fn told(rt: &impl Print, alloc: Global, line: &str) -> io::Result<bool> {
         None => (line, None),
     };
     let answer = cases::answer(alloc, case)?;
+    agrees(rt, case, wanted, &answer)
+}
+
+// Whether the answer is the one that is wanted, or none is. It tells the answer where it is not.
+fn agrees(rt: &impl Print, case: &str, wanted: Option<&str>, answer: &str) -> io::Result<bool> {
     match wanted {
-        Some(wanted) if wanted == answer.as_str() => Ok(true),
+        Some(wanted) if wanted == answer => Ok(true),
         Some(_) => {
             println!(rt; "{case}: {answer}")?;
             Ok(false)

@@ -44,9 +44,7 @@ fn convert_piece<S: Step>(
     let mut to = vec![in alloc; 0u8; 16]?;
     to.extend_from_slice(piece)?;
     let progress = convert(step, chain, block, used, piece, to.as_mut_slice());
-    for byte in to.as_slice().iter().take(progress.written) {
-        out.push(*byte)?;
-    }
+    out.extend_from_slice(&to.as_slice()[..progress.written])?;
     Ok(progress.used)
 }
 
@@ -103,6 +101,28 @@ fn converted<S: Step>(
     requires some { 1 ≤ size }
     requires fits { size ≤ 16 }
 {
+    let mut out = Vec::new(alloc);
+    if convert_message(alloc, step, size, padding, first, pieces, &mut out)? {
+        hex::encode(alloc, out.as_slice())
+    } else {
+        String::from_str(alloc, "none")
+    }
+}
+
+// Converts a message. It gives whether it is whole blocks and has a padding.
+fn convert_message<S: Step>(
+    alloc: Global,
+    step: &S,
+    size: usize,
+    padding: (Padding, Padding),
+    first: &[u8],
+    pieces: &[Vec<u8>],
+    out: &mut Vec<u8>,
+) -> Result<bool, AllocError>
+    requires size { S.size ≡ size }
+    requires some { 1 ≤ size }
+    requires fits { size ≤ 16 }
+{
     let mut chain = [0; 16];
     let chain = &mut chain[..size];
     if first.len() == size {
@@ -110,19 +130,13 @@ fn converted<S: Step>(
     }
     let mut block = [0; 16];
     let block = &mut block[..size];
-    let mut out = Vec::new(alloc);
-    let used = convert_all(alloc, step, chain, block, pieces, &mut out)?;
+    let used = convert_all(alloc, step, chain, block, pieces, out)?;
     let mut to = [0; 32];
     let Some(count) = finish(step, padding.0, chain, block, used, &mut to) else {
-        return String::from_str(alloc, "none");
+        return Ok(false);
     };
-    for byte in to.iter().take(count) {
-        out.push(*byte)?;
-    }
-    if !strip(padding.1, size, &mut out) {
-        return String::from_str(alloc, "none");
-    }
-    hex::encode(alloc, out.as_slice())
+    out.extend_from_slice(&to[..count.min(32)])?;
+    Ok(strip(padding.1, size, out))
 }
 
 /// A message through ECB and CBC, both ways.
@@ -216,22 +230,43 @@ fn code<C: BlockCipher>(
     let step = CbcEncryption { cipher };
     let mut chain = [0; 16];
     let chain = &mut chain[..size];
+    if finish_code(alloc, &step, &second, size, name, padding, pieces, chain)? {
+        hex::encode(alloc, &*chain)
+    } else {
+        String::from_str(alloc, "none")
+    }
+}
+
+// Makes the chaining block the code. It gives whether the message is whole blocks or has a padding.
+fn finish_code<C: BlockCipher>(
+    alloc: Global,
+    step: &CbcEncryption<C>,
+    second: &C,
+    size: usize,
+    name: &str,
+    padding: Padding,
+    pieces: &[Vec<u8>],
+    chain: &mut [u8],
+) -> Result<bool, AllocError>
+    requires size { C.size ≡ size }
+    requires some { 1 ≤ size }
+    requires fits { size ≤ 16 }
+    requires chain { length chain.old ≡ size }
+{
     let mut block = [0; 16];
     let block = &mut block[..size];
     let mut out = Vec::new(alloc);
-    let used = convert_all(alloc, &step, chain, block, pieces, &mut out)?;
+    let used = convert_all(alloc, step, chain, block, pieces, &mut out)?;
     if name == "cmac" {
         finish_cmac(&step.cipher, chain, block, used);
-        return hex::encode(alloc, &*chain);
+        return Ok(true);
     }
     let mut to = [0; 32];
-    if finish(&step, padding, chain, block, used, &mut to).is_none() {
-        return String::from_str(alloc, "none");
+    let whole = finish(step, padding, chain, block, used, &mut to).is_some();
+    if whole && name == "mac3" {
+        finish_3(&step.cipher, second, chain);
     }
-    if name == "mac3" {
-        finish_3(&step.cipher, &second, chain);
-    }
-    hex::encode(alloc, &*chain)
+    Ok(whole)
 }
 
 /// A message's code under a key of AES or DES; algorithm 3 takes two keys of DES.

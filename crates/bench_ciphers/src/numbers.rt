@@ -1,6 +1,7 @@
 //! Products, powers and inverses modulo odd numbers, quotients, and inverses modulo any number.
 
 ghost use Rattle.std.specs.Prelude.{◌≡◌, ◌<◌, ◌≤◌, length};
+ghost use Rattle.jc_numbers.specs.Moduli.{IsModulus};
 ghost use Rattle.jc_numbers.specs.Montgomery.{IsResidue};
 ghost use Rattle.jc_numbers.specs.Numbers.{value};
 
@@ -48,31 +49,55 @@ fn modular_of(
     requires second { length second.now ≤ 512 }
     requires modulus { length modulus.now ≤ 512 }
 {
-    let mut first_limbs = [0; MOST_LIMBS];
-    from_bytes(&mut first_limbs, first);
-    let mut second_limbs = [0; MOST_LIMBS];
-    from_bytes(&mut second_limbs, second);
     let mut limbs = [0; MOST_LIMBS];
-    let count = modulus.len().div_ceil(4);
-    from_bytes(&mut limbs[..count], modulus);
-    let Some(prepared) = Modulus::new(&limbs[..count]) else {
-        return Ok(String::new(alloc));
-    };
-    let mut result = [0; MOST_LIMBS];
-    match kind {
-        "power" => prepared.power(&mut result[..count], &first_limbs, &second_limbs),
-        "product" | "forms" => product(
-            &prepared,
-            kind,
-            &mut result[..count],
-            &first_limbs,
-            &second_limbs,
-        ),
-        _ => inverse(&prepared, &mut result[..count], &first_limbs),
+    let limbs = &mut limbs[..modulus.len().div_ceil(4)];
+    from_bytes(limbs, modulus);
+    match Modulus::new(limbs) {
+        Some(prepared) => modular_by(alloc, kind, first, second, &prepared, modulus.len()),
+        None => Ok(String::new(alloc)),
     }
+}
+
+fn modular_by(
+    alloc: Global,
+    kind: &str,
+    first: &[u8],
+    second: &[u8],
+    modulus: &Modulus,
+    size: usize,
+) -> Result<String, AllocError>
+    requires first { length first.now ≤ 512 }
+    requires second { length second.now ≤ 512 }
+    requires modulus { IsModulus modulus.now }
+    requires size { size ≤ 512 }
+{
+    let mut result = [0; MOST_LIMBS];
+    let result = &mut result[..modulus.limbs().len()];
+    put_result(modulus, kind, result, &limbs_of(first), &limbs_of(second));
     let mut answer = [0; 512];
-    to_bytes(&mut answer[..modulus.len()], &result[..count]);
-    hex::encode(alloc, &answer[..modulus.len()])
+    let answer = &mut answer[..size];
+    to_bytes(answer, result);
+    hex::encode(alloc, &*answer)
+}
+
+fn limbs_of(bytes: &[u8]) -> [u32; MOST_LIMBS]
+    requires { length bytes.now ≤ 512 }
+{
+    let mut limbs = [0; MOST_LIMBS];
+    from_bytes(&mut limbs, bytes);
+    limbs
+}
+
+fn put_result(modulus: &Modulus, kind: &str, to: &mut [u32], first: &[u32], second: &[u32])
+    requires to { length to.old ≡ length modulus.now }
+    requires modulus { IsModulus modulus.now }
+    requires numbers { (length first.now ≤ 128) × (length second.now ≤ 128) }
+{
+    match kind {
+        "power" => modulus.power(to, first, second),
+        "product" | "forms" => product(modulus, kind, to, first, second),
+        _ => inverse(modulus, to, first),
+    }
 }
 
 // The product of two numbers modulo a third, by forms or not.
@@ -83,12 +108,14 @@ fn product(prepared: &Modulus, kind: &str, to: &mut [u32], first: &[u32], second
 {
     let count = to.len();
     let mut a = [0; MOST_LIMBS];
-    remainder(&mut a[..count], first, prepared.limbs());
+    let a = &mut a[..count];
+    remainder(a, first, prepared.limbs());
     let mut b = [0; MOST_LIMBS];
-    remainder(&mut b[..count], second, prepared.limbs());
+    let b = &mut b[..count];
+    remainder(b, second, prepared.limbs());
     match kind {
-        "forms" => product_of_forms(prepared, to, &a[..count], &b[..count]),
-        _ => prepared.multiply(to, &a[..count], &b[..count]),
+        "forms" => product_of_forms(prepared, to, a, b),
+        _ => prepared.multiply(to, a, b),
     }
 }
 
@@ -100,12 +127,15 @@ fn product_of_forms(prepared: &Modulus, to: &mut [u32], a: &[u32], b: &[u32])
 {
     let count = to.len();
     let mut first = [0; MOST_LIMBS];
-    prepared.to_form(&mut first[..count], a);
+    let first = &mut first[..count];
+    prepared.to_form(first, a);
     let mut second = [0; MOST_LIMBS];
-    prepared.to_form(&mut second[..count], b);
+    let second = &mut second[..count];
+    prepared.to_form(second, b);
     let mut form = [0; MOST_LIMBS];
-    prepared.multiply_forms(&mut form[..count], &first[..count], &second[..count]);
-    prepared.from_form(to, &form[..count]);
+    let form = &mut form[..count];
+    prepared.multiply_forms(form, first, second);
+    prepared.from_form(to, form);
 }
 
 // A number to the power of a modulus less 2.
@@ -116,8 +146,9 @@ fn inverse(prepared: &Modulus, to: &mut [u32], number: &[u32])
 {
     let count = to.len();
     let mut residue = [0; MOST_LIMBS];
-    remainder(&mut residue[..count], number, prepared.limbs());
-    let _is_inverse = prepared.invert(to, &residue[..count]);
+    let residue = &mut residue[..count];
+    remainder(residue, number, prepared.limbs());
+    let _is_inverse = prepared.invert(to, residue);
 }
 
 /// The quotient and the remainder of two numbers, in as many bytes as these have, or the inverse of the first modulo the second. It is
@@ -138,10 +169,8 @@ fn quotient(alloc: Global, first: &[u8], second: &[u8]) -> Result<String, AllocE
     requires first { length first.now ≤ 512 }
     requires second { length second.now ≤ 512 }
 {
-    let mut number = [0; MOST_LIMBS];
-    from_bytes(&mut number, first);
-    let mut divisor = [0; MOST_LIMBS];
-    from_bytes(&mut divisor, second);
+    let number = limbs_of(first);
+    let divisor = limbs_of(second);
     if is_zero(&divisor) {
         return Ok(String::new(alloc));
     }
@@ -159,15 +188,12 @@ fn inverse_of_any(alloc: Global, first: &[u8], second: &[u8]) -> Result<String, 
     requires first { length first.now ≤ 512 }
     requires second { length second.now ≤ 512 }
 {
-    let mut limbs = [0; MOST_LIMBS];
-    from_bytes(&mut limbs, second);
+    let limbs = limbs_of(second);
     if is_zero(&limbs) || is_one(&limbs) {
         return Ok(String::new(alloc));
     }
-    let mut number = [0; MOST_LIMBS];
-    from_bytes(&mut number, first);
     let mut residue = [0; MOST_LIMBS];
-    remainder(&mut residue, &number, &limbs);
+    remainder(&mut residue, &limbs_of(first), &limbs);
     let mut result = [0; MOST_LIMBS];
     let _found = invert(&mut result, &residue, &limbs);
     let mut answer = [0; 512];

@@ -2,7 +2,7 @@
 
 ghost use Rattle.std.specs.Prelude.{◌≡◌, ◌≤◌, length};
 
-use crate::words::bytes;
+use crate::words::{bytes, bytes_of_all};
 use jc_rsa::crt::{CrtKey, crt_power};
 use jc_rsa::key_pair::{FEWEST_OF_PRIME, KeyPairError, KeyParts, MOST_OF_PRIME, SEED, generate};
 use jc_rsa::power::{PowerError, power};
@@ -43,29 +43,35 @@ fn name_of(alloc: Global, error: PowerError) -> Result<String, AllocError> {
 }
 
 /// What a key of p, q, dP, dQ and qInv makes of a message, in as many bytes as p and q have, or why it makes nothing.
-pub fn rsa_crt(alloc: Global, words: [&str; 6]) -> Result<String, AllocError> {
-    let p = bytes(alloc, words[0])?;
-    let q = bytes(alloc, words[1])?;
-    let dp = bytes(alloc, words[2])?;
-    let dq = bytes(alloc, words[3])?;
-    let q_inverse = bytes(alloc, words[4])?;
-    let message = bytes(alloc, words[5])?;
-    if p.len() > 256 || q.len() > 256 || dp.len() > 512 || dq.len() > 512 {
-        return Ok(String::new(alloc));
-    }
-    if q_inverse.len() > 512 || message.len() > 512 {
+pub fn rsa_crt(alloc: Global, words: &[&str]) -> Result<String, AllocError> {
+    let numbers = bytes_of_all(alloc, words)?;
+    crt_of(alloc, numbers.as_slice())
+}
+
+fn crt_of(alloc: Global, numbers: &[Vec<u8>]) -> Result<String, AllocError> {
+    if numbers.len() != 6 {
         return Ok(String::new(alloc));
     }
     let key = CrtKey {
-        p: p.as_slice(),
-        q: q.as_slice(),
-        dp: dp.as_slice(),
-        dq: dq.as_slice(),
-        q_inverse: q_inverse.as_slice(),
+        p: numbers[0].as_slice(),
+        q: numbers[1].as_slice(),
+        dp: numbers[2].as_slice(),
+        dq: numbers[3].as_slice(),
+        q_inverse: numbers[4].as_slice(),
     };
+    power_of_key(alloc, &key, numbers[5].as_slice())
+}
+
+fn power_of_key(alloc: Global, key: &CrtKey<'_>, message: &[u8]) -> Result<String, AllocError> {
+    if key.p.len() > 256 || key.q.len() > 256 || key.dp.len() > 512 || key.dq.len() > 512 {
+        return Ok(String::new(alloc));
+    }
+    if key.q_inverse.len() > 512 || message.len() > 512 {
+        return Ok(String::new(alloc));
+    }
     let mut to = [0; 512];
-    let to = &mut to[..p.len() + q.len()];
-    match crt_power(&key, message.as_slice(), to) {
+    let to = &mut to[..key.p.len() + key.q.len()];
+    match crt_power(key, message, to) {
         Ok(()) => hex::encode(alloc, &*to),
         Err(error) => name_of(alloc, error),
     }
@@ -132,20 +138,35 @@ fn key_of(
         },
     );
     match made {
-        Ok(()) => {
-            let mut text = hex::encode(alloc, &modulus[..2 * size])?;
-            push_part(alloc, &mut text, &private_exponent[..2 * size])?;
-            for part in &[p, q, dp, dq, q_inverse] {
-                push_part(alloc, &mut text, &part[..size])?;
-            }
-            Ok(text)
-        }
+        Ok(()) => text_of(
+            alloc,
+            &[
+                &modulus[..2 * size],
+                &private_exponent[..2 * size],
+                &p[..size],
+                &q[..size],
+                &dp[..size],
+                &dq[..size],
+                &q_inverse[..size],
+            ],
+        ),
         Err(KeyPairError::ExponentNotUsable) => String::from_str(alloc, "exponent"),
         Err(KeyPairError::NoPrimesFound) => String::from_str(alloc, "primes"),
     }
 }
 
+// Parts with spaces between.
+fn text_of(alloc: Global, parts: &[&[u8]]) -> Result<String, AllocError> {
+    let mut text = String::new(alloc);
+    for part in parts {
+        push_part(alloc, &mut text, part)?;
+    }
+    Ok(text)
+}
+
 fn push_part(alloc: Global, text: &mut String, part: &[u8]) -> Result<(), AllocError> {
-    text.push(' ')?;
+    if !text.is_empty() {
+        text.push(' ')?;
+    }
     text.push_str(&hex::encode(alloc, part)?)
 }

@@ -23,6 +23,21 @@ pub fn bytes(alloc: Global, word: &str) -> Result<Vec<u8>, AllocError> {
     Ok(bytes)
 }
 
+/// The bytes of each word.
+pub fn bytes_of_all(alloc: Global, words: &[&str]) -> Result<Vec<Vec<u8>>, AllocError> {
+    let mut all = Vec::new(alloc);
+    for word in words {
+        push_bytes(alloc, &mut all, word)?;
+    }
+    Ok(all)
+}
+
+fn push_bytes(alloc: Global, all: &mut Vec<Vec<u8>>, word: &str) -> Result<(), AllocError> {
+    let bytes = bytes(alloc, word)?;
+    all.push(bytes)?;
+    Ok(())
+}
+
 /// A message in pieces of these lengths, with commas between, and the rest as the last.
 pub fn pieces(alloc: Global, cuts: &str, message: &str) -> Result<Vec<Vec<u8>>, AllocError> {
     let message = bytes(alloc, message)?;
