@@ -1,14 +1,15 @@
 //! A card that has carried out the first lines of a script, from which copies of it go on.
-ghost use Rattle.std.specs.Prelude.{◌≡◌, ℕ, List, [], false, None, IfSome, IsTrue};
+ghost use Rattle.std.specs.Prelude.{◌≡◌, ◌+◌, ◌^◌, ◌<◌, ℕ, List, [], length, false, None, Ok, IfSome, IsTrue};
 ghost use Rattle.jc_commit.specs.Image.{IsGoodLog};
 ghost use Rattle.jcard_script.specs.Begun.{AnswersGlitched, AnswersLeaving, AnswersLines, AnswersWith, ForEachAlike, HasBegun, IsCommandLine, IsGlitchLine, IsStopLine, LeavesCut};
 ghost use Rattle.std.specs.Io.KnownBytes.{Appends, Consumes};
 ghost use Rattle.jc_words.specs.Refusals.{no_refusals};
 ghost use Rattle.jc_card.specs.PowerUp.Outcome.{IsPoweredOver};
 ghost use Rattle.jc_card.specs.State.Power.{Up};
-ghost use Rattle.jcard_script.specs.Script.{IsWholeScript};
+ghost use Rattle.jcard_script.specs.HeldCard.{IsState, state_of_held};
+ghost use Rattle.jcard_script.specs.Script.{AreCarriedOut, IsWholeScript, ended_lines};
 ghost use Rattle.jcard_script.specs.ScriptStates.{IsSessionStore};
-ghost use Rattle.jcard_script.specs.Session.{IsUnbroken, unfinished_line};
+ghost use Rattle.jcard_script.specs.Session.{IsUnbroken, StandsAt, unfinished_line};
 
 use crate::explainer::Unasked;
 use crate::line::{Line, LineRequest};
@@ -18,6 +19,7 @@ use crate::word::word_asked;
 use arrayvec::ArrayVec;
 use jc_card::card::Card;
 use jc_card::planned_fault::PlannedFault;
+use jc_card::power_up::PowerFault;
 use jc_card::powered_image::PoweredImage;
 use jc_card::response::Response;
 use jc_memory::Notes;
@@ -54,26 +56,41 @@ pub fn begin_script<S: WordStore + Drop>(
 ) -> Option<BegunScript<S>>
     ensures { IfSome result (λ begun. HasBegun budget fuse script.now begun) }
 {
-    if script.len() > BOUND {
-        return None;
-    }
-    if !ends_a_line(script) {
+    if script.len() > BOUND || !ends_a_line(script) {
         return None;
     }
     let (mut session, started) = Session::start(alloc, fuse, budget, Notes::nowhere());
-    let Ok(()) = started else {
-        return None;
-    };
-    let Ok(()) = session.feed(script, &mut Unwritten, &mut Unasked) else {
-        return None;
-    };
+    let fed = is_fed(&mut session, started, script);
     let card = session.into_card()?;
-    if card.has_open_load() {
+    if !fed || card.has_open_load() {
+        let _store = card.into_store();
         return None;
     }
     Some(BegunScript {
         card: card.sharing(),
     })
+}
+
+// Whether a session that has powered up, if it has, carries out the lines of a script.
+fn is_fed<S: WordStore + Drop>(
+    session: &mut Session<S>,
+    started: Result<(), PowerFault>,
+    script: &[u8],
+) -> bool
+    requires number { session.old.number + length script.now < 2 ^ 32 }
+    requires held { IsState session.old.held }
+    requires stands { StandsAt session.old (state_of_held session.old.held) [] [] }
+    ensures held { IsState session.new.held }
+    ensures fed { IsTrue result → (started ≡ Ok tt) × ((text : List ℕ) × AreCarriedOut (ended_lines script.now)
+        (state_of_held session.old.held) (state_of_held session.new.held) text) }
+{
+    let Ok(()) = started else {
+        return false;
+    };
+    let Ok(()) = session.feed(script, &mut Unwritten, &mut Unasked) else {
+        return false;
+    };
+    true
 }
 
 /// The card that has just powered up over an image, with a budget of instructions a command. Nothing where memory for it is refused.
@@ -111,11 +128,7 @@ impl<S: CopyStore + Drop> BegunScript<S> {
         let Ok(copy) = self.card.copy() else {
             return None;
         };
-        let card = glitched(copy, fault, command, response)?;
-        if card.has_open_load() {
-            return None;
-        }
-        Some(BegunScript { card })
+        glitched(copy, fault, command, response)
     }
 
     /// The store of a copy of the card, without power. Nothing where memory for the copy is refused.
@@ -168,8 +181,10 @@ fn answered<S: WordStore + Drop, R: TextIn, W: TextOut>(
         × IsWholeScript (R.remaining reader.new) script × AnswersLines card script text store) }
 {
     let mut session = Session::of_card(alloc, card);
-    match session.run(reader, writer, &mut Unasked) {
-        Ok(()) => Some(session.into_store()),
+    let ended = session.run(reader, writer, &mut Unasked);
+    let store = session.into_store();
+    match ended {
+        Ok(()) => Some(store),
         Err(_fault) => None,
     }
 }
@@ -204,25 +219,28 @@ fn store_after<S: WordStore>(mut card: Card<FuseStore<S>>, command: &[u8]) -> Fu
     card.into_store()
 }
 
-// A card that has carried out a command in which this fault came, or none; from then on none comes. Nothing where the store refuses a write.
+// A card that has carried out a command in which this fault came, or none; from then on none comes. Nothing where the store refuses a write, or the
+// command opens a load.
 fn glitched<S: WordStore + Drop>(
     mut card: Card<FuseStore<S>>,
     fault: Option<PlannedFault>,
     command: &[u8],
     response: &mut Response,
-) -> Option<Card<FuseStore<S>>>
+) -> Option<BegunScript<S>>
     requires { card.memory.heap.down ≡ false }
-    ensures up { IfSome result (λ next. next.memory.heap.down ≡ false) }
-    ensures answers { IfSome result (λ next. AnswersWith fault card command.now response.new next) }
+    ensures { IfSome result (λ next. AnswersWith fault card command.now response.new next) }
 {
     card.plan_fault(fault);
-    match card.exchange(command, response) {
-        Ok(()) => {
-            card.plan_fault(None);
-            Some(card)
-        }
-        Err(StoreDown) => None,
+    let Ok(()) = card.exchange(command, response) else {
+        let _store = card.into_store();
+        return None;
+    };
+    card.plan_fault(None);
+    if card.has_open_load() {
+        let _store = card.into_store();
+        return None;
     }
+    Some(BegunScript { card })
 }
 
 /// The command that a line is, with its line feed: its bytes, of which 65545 at most are kept. Nothing where it is none, or no line feed ends

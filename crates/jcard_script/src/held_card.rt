@@ -141,13 +141,19 @@ pub(crate) fn cut_told<S: WordStore, E: Explainer>(
     };
     let wanted = explainer.wanted()?;
     let asked = asked_about(alloc, card, told, explainer, 0, 0);
-    let mut text = explainer
-        .arrivals(&asked, told.statics)
-        .unwrap_or(Vec::new(alloc));
-    if wanted.why {
-        if let Some(cut) = told_of_cut(&asked).ok()? {
-            text.extend_from_slice(&cut).ok()?;
-        }
+    let cut = if wanted.why {
+        told_of_cut(&asked).ok()?
+    } else {
+        None
+    };
+    let arrivals = explainer.arrivals(&asked, told.statics);
+    joined(arrivals.unwrap_or(Vec::new(alloc)), cut)
+}
+
+// A text with another after it, if there is one. Nothing where memory for it is refused.
+fn joined(mut text: Vec<u8>, more: Option<Vec<u8>>) -> Option<Vec<u8>> {
+    if let Some(more) = &more {
+        text.extend_from_slice(more).ok()?;
     }
     Some(text)
 }
@@ -203,12 +209,9 @@ fn text_about<S: WordStore, E: Explainer>(
     if let Some(watch) = explainer.watch() {
         watch.end(&asked);
     }
-    let mut text = explainer
-        .arrivals(&asked, told_of.statics)
-        .unwrap_or(Vec::new(alloc));
     let told = told(&asked, wanted).ok()?;
-    text.extend_from_slice(&told).ok()?;
-    Some(text)
+    let arrivals = explainer.arrivals(&asked, told_of.statics);
+    joined(arrivals.unwrap_or(Vec::new(alloc)), Some(told))
 }
 
 fn asked_about<'a, S: WordStore, E: Explainer>(

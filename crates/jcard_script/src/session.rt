@@ -1,5 +1,5 @@
 //! A script that is being carried out.
-ghost use Rattle.std.specs.Prelude.{◌≡◌, ◌+◌, ◌-◌, ◌^◌, ◌<◌, ℕ, List, [], ◌++◌, Bool, length, IfOk, IfErr, IfSome, OnOk, MatchResult, IsSome, Err, false};
+ghost use Rattle.std.specs.Prelude.{◌≡◌, ◌+◌, ◌-◌, ◌^◌, ◌<◌, ℕ, List, [], ◌++◌, Bool, length, IfOk, IfErr, IfSome, OnOk, MatchResult, IsSome, Err, Some, false};
 ghost use Rattle.std.specs.Bool.{OnTrue};
 ghost use Rattle.std.specs.Io.KnownBytes.{Appends, Consumes};
 ghost use Rattle.std.specs.Str.Lines.{lines};
@@ -564,8 +564,17 @@ impl<S: WordStore + Drop> Session<S> {
         );
         self.cut_number = self.number;
         let left = into_store(held);
-        self.held = Some(SessionState::Store(left, budget));
+        self.hold(SessionState::Store(left, budget));
         Reply::Down
+    }
+
+    // From now on the session has this card or store; what it had has no power any more.
+    fn hold(&mut self, held: SessionState<FuseStore<S>>)
+        ensures { self.new ≡ record self.old { held = Some held } }
+    {
+        if let Some(before) = self.held.replace(held) {
+            let _store = into_store(before);
+        }
     }
 
     // The budget that the card has, or has when it is up again.
@@ -594,7 +603,7 @@ impl<S: WordStore + Drop> Session<S> {
         let (mut held, result) = power_up(self.alloc, store, budget);
         explain(&mut held, &self.notes);
         let reply = power_up_reply(&held);
-        self.held = Some(held);
+        self.hold(held);
         result?;
         Ok(reply)
     }

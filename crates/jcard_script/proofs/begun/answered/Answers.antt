@@ -15,8 +15,8 @@ is_true = search rules
 
 pub returns-in-Ok : goal.returns-in-Ok
 returns-in-Ok g c =
-    let ran = c.run.ensures.script in
+    let ran = c.run-ended.ensures.script in
     let ended = rw c.in-Ok.is at ran.6 in
-    let last : ScriptState = state_of_held c.run.new.self.held in
+    let last : ScriptState = state_of_held c.run-ended.new.self.held in
     let carried = subst (λ (s : ScriptState). AreCarriedOut (lines ran.0) s last ran.1) c.of_card-session.ensures.card ended.1 in
-    (ran.0, ran.1, ran.3, ran.4, whole_at_end ran.2 _ ended.0 ran.5, (last, (is_true, carried), c.into_store.ensures.store))
+    (ran.0, ran.1, ran.3, ran.4, whole_at_end ran.2 _ ended.0 ran.5, (last, (is_true, carried), c.into_store-store.ensures.store))
