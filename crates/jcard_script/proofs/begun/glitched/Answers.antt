@@ -8,9 +8,8 @@ pub invariant_of-result : goal.invariant_of-result
 invariant_of-result g c =
     let planned : CardState = c.plan_fault.new.self in
     let up = ap (λ (x : CardState). x.memory.heap.down) c.plan_fault.ensures ∙ c.requires in
-    let closed : c.plan_fault-2.new.self.load ≡ None = search rules in
-    (
+    let closed : c.plan_fault-2.new.self.load ≡ None = search rules in (
       ap (λ (x : CardState). x.memory.heap.down) c.plan_fault-2.ensures
-      ∙ (down_did (exchange c.args.command.now planned) planned.memory c.exchange.new.self.memory _ c.in-Ok.ensures.executes ∙ up),
+          ∙ (down_did (exchange c.args.command.now planned) planned.memory c.exchange.new.self.memory _ c.in-Ok.ensures.executes ∙ up),
       closed,
     )
