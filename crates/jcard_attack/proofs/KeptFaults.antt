@@ -93,10 +93,10 @@ struck_aftermath words c fault response card a struck leaves digits =
     let line = planned_ended struck.2 in
     let begun = struck.3 in
     let same = struck.5 in
-    let after : FuseStoreValue = leaves.0 in
+    let after : FuseStoreValue = leaves.0.0 in
     let script : List ℕ = attacked_script c fault in
     let printed : List ℕ = begun.text in
-    let store = subst (λ (x : CardState). IsSessionStore (Up x) after) same leaves.2 in
+    let store = subst (λ (x : CardState). IsSessionStore (Up x) after) same leaves.0.1 in
     let runs : Runs c.instructions words script printed after = begun_ended c.instructions (store_of words) script end printed (begun, refl) after store in
     let told : printed ≡ (before ++ line.0 ++ 10 ∷ []) ++ (a.answer.items ++ 10 ∷ []) = struck.4
     ∙ ap (λ (l : List ℕ). (before ++ l) ++ text_of response) line.1 ∙ ap (λ (l : List ℕ). l ++ text_of response) (sym (append_assoc before line.0 (10 ∷ [])))
@@ -106,7 +106,7 @@ struck_aftermath words c fault response card a struck leaves digits =
     (last_line_is (before ++ line.0) a.answer.items free) in
     let none = begun_more c.instructions (store_of words) script end printed (begun, refl) (codes "glitch none") (planned_text None) (planned_card None end)
     none_unbroken (Planned None, (refl, refl), refl) in
-    let answers = subst (λ (x : CardState). AnswersLines x c.probe.now a.left.answers.items leaves.1) same leaves.4 in
+    let answers = subst (λ (x : CardState). AnswersLines x c.probe.now a.left.answers.items leaves.1) same leaves.2 in
     let ends = begun_ends c.instructions (store_of words) (script ++ codes "glitch none" ++ 10 ∷ []) (planned_card None end) (printed ++ planned_text None) none
     c.probe.now a.left.answers.items leaves.1 answers in
     let probed : script ++ codes "glitch none" ++ 10 ∷ [] ++ c.probe.now ≡ probed_script c script =
@@ -116,4 +116,4 @@ struck_aftermath words c fault response card a struck leaves digits =
     let rest : a.left.answers.items ≡ drop (length printed + length (codes "planned none\n")) ((printed ++ planned_text None) ++ a.left.answers.items) =
     sym (drop_at (printed ++ planned_text None) a.left.answers.items (length printed + length (codes "planned none\n"))
     (length-append printed (planned_text None))) in
-    (printed, after, runs, is_last, (leaves.3, ((printed ++ planned_text None) ++ a.left.answers.items, leaves.1, all, rest)))
+    (printed, after, runs, is_last, (leaves.0.2, ((printed ++ planned_text None) ++ a.left.answers.items, leaves.1, all, rest)))

@@ -24,13 +24,15 @@ abbrev pub IsAttackingRead : Subject → AttackAsked → Attacking → List File
 IsAttackingRead subject asked a deeds = (a.subject ≡ subject) × (attack_asked_by a.asked ≡ asked) × (given : Option (List ℕ)) × IsProbeRead asked.probe given deeds
     × (a.probe.now ≡ unwrap_or given [])
 
+-- the faults of this were tried, and the report was written
+abbrev pub IsTargetAttacked : Attacking → Target → Tells
+IsTargetAttacked a target = FindsThen (IsToldBy a target) (IsUntoldTold a target) (λ told. WithNoFile (IsAttackTold told.text.items told.is_accepted))
+
 -- what is meant of the commands was found, the probe was read, its faults were tried, and the report was written
 abbrev pub IsAttacked : Subject → AttackAsked → Tells
 IsAttacked subject asked =
     FindsThen (IsTarget (sweep_of asked) subject.commands.now) (IsNoTarget (sweep_of asked) subject.commands.now) (λ target.
-    ReadsThen (IsAttackingRead subject asked) (IsProbeUnread asked.probe) (λ attacking.
-    FindsThen (IsToldBy attacking target) (IsUntoldTold attacking target) (λ told.
-    WithNoFile (IsAttackTold told.text.items told.is_accepted))))
+    ReadsThen (IsAttackingRead subject asked) (IsProbeUnread asked.probe) (λ attacking. IsTargetAttacked attacking target))
 
 -- the words of the image and the script were read, the whole script was carried out over these words, and the command that is meant was attacked,
 -- on cards in memory alone

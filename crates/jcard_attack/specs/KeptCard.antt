@@ -26,7 +26,10 @@ HasStruck words c fault response card = (end : CardState) × (text : List ℕ) �
     × (begun : HasBegun c.instructions (store_of words) (attacked_script c fault) end)
     × (begun.text ≡ (text ++ planned_text planned) ++ text_of response) × (card ≡ planned_card None end)
 
+-- a recovery finds the heap of these words where a card is left so
+abbrev pub LeavesHeap : CardState → List ℕ → Type 0
+LeavesHeap card found = (after : FuseStoreValue) × IsSessionStore (Up card) after × (plain_of found ≡ migrated 3 (recovered_of after.words))
+
 -- a card leaves this: the heap that a recovery finds, and what it answers to the lines of a probe
 abbrev pub Leaves : CardState → List ℕ → Left → Type 0
-Leaves card probe left = (after last : FuseStoreValue) × IsSessionStore (Up card) after × (plain_of left.words.items ≡ migrated 3 (recovered_of after.words))
-    × AnswersLines card probe left.answers.items last
+Leaves card probe left = LeavesHeap card left.words.items × (last : FuseStoreValue) × AnswersLines card probe left.answers.items last

@@ -90,10 +90,17 @@ name_told f = f.model ++ codes " " ++ f.number ++ f.second
 abbrev pub first_name : List FaultTold → Option (List ℕ)
 first_name faults = option_map name_told (slice_get faults 0)
 
+-- how many of these faults were accepted, and the first of them
+abbrev pub accepted_told : List FaultTold → List ℕ
+accepted_told faults = accepted_line (length faults) (length (told_accepted faults)) (first_name (told_accepted faults))
+
+-- how many changed something in silence, and the first of them
+abbrev pub silence_told : List FaultTold → List ℕ
+silence_told faults = silence_line (length (told_silent faults)) (first_name (told_silent faults))
+
 -- the verdict over faults in words
 abbrev pub verdict_told : List FaultTold → List ℕ
-verdict_told faults = accepted_line (length faults) (length (told_accepted faults)) (first_name (told_accepted faults))
-    ++ silence_line (length (told_silent faults)) (first_name (told_silent faults)) ++ codes "\n"
+verdict_told faults = accepted_told faults ++ silence_told faults ++ codes "\n"
 
 -- the report of these faults, with this of the command without one
 abbrev pub joined_text : List FaultTold → List ℕ → List ℕ

@@ -1,9 +1,11 @@
 //! `jcard attack`: a fault at each instruction of commands of a script.
-ghost use Rattle.std.specs.Prelude.{◌≡◌, ◌<◌, length};
-ghost use Rattle.jcard_files.specs.Effects.{Does};
+ghost use Rattle.std.specs.Prelude.{◌≡◌, ◌<◌, [], length};
+ghost use Rattle.jcard_files.specs.Effects.{Does, Writes};
 ghost use Rattle.jcard_attack.specs.AttackAsked.{attack_asked_by, behind_of, sweep_of};
-ghost use Rattle.jcard_attack.specs.ImageSweep.{IsAttack, IsAttacked};
+ghost use Rattle.jcard_attack.specs.ImageSweep.{IsAttack, IsAttacked, IsTargetAttacked};
+ghost use Rattle.jcard_sweeps.specs.Subject.{CarriedThen, CarriesOver};
 ghost use Rattle.jcard_sweeps.specs.SweepAsked.{sweep_asked_by};
+ghost use Rattle.jcard_sweeps.specs.Targets.{IsAmong};
 
 use crate::aftermaths::AttackFault;
 use crate::output::write_attack;
@@ -23,7 +25,7 @@ use jcard_sweeps::script_fault::Names;
 use jcard_sweeps::script_lines::commands;
 use jcard_sweeps::subject::{Subject, carry_through, image_words, lent, probe_of};
 use jcard_sweeps::sweep_fault::TearFault;
-use jcard_sweeps::targets::target_of;
+use jcard_sweeps::targets::{Target, target_of};
 use jcard_texts::streams::TextOut;
 use std::alloc::Global;
 
@@ -56,7 +58,25 @@ pub fn attack_image<'n, D: Disk, W: TextOut, P: Progress + Remarks>(
 {
     let words = image_words(disk, image)?;
     let script = script_of(disk, asked.script)?;
-    let Ok(commands) = commands(disk.alloc(), &script) else {
+    attack_script(disk, image, &words, &script, asked, out, progress)
+}
+
+// Attacks what is asked for of this script over these words of an image. The commands alone are let go here.
+fn attack_script<'n, D: Disk, W: TextOut, P: Progress + Remarks>(
+    disk: &mut D,
+    image: &'n str,
+    words: &[u16],
+    script: &[u8],
+    asked: AskedAttack<'n, '_>,
+    out: &mut W,
+    progress: &mut P,
+) -> Result<(), Fault<'n>>
+    requires { length words.now < 65536 }
+    ensures { Does D.does W.contents W.failures disk.old disk.new out.old out.new result
+        (CarriesOver image.now words.now script.now asked.entry.instructions
+        (λ subject. IsAttacked subject (attack_asked_by asked.entry))) }
+{
+    let Ok(commands) = commands(disk.alloc(), script) else {
         return Err(Fault::NoMemory);
     };
     let subject = Subject {
@@ -64,15 +84,14 @@ pub fn attack_image<'n, D: Disk, W: TextOut, P: Progress + Remarks>(
             image,
             script: asked.script,
         },
-        words: &words,
-        script: &script,
+        words,
+        script,
         commands: &commands,
     };
-    carry_through(disk.alloc(), subject, asked.instructions, progress)?;
     attack_subject(disk, subject, asked, out, progress)
 }
 
-// Attacks what is asked for of a script that was carried out, with the lines of the probe after each fault, and writes the report.
+// Carries the script out, and attacks what is asked for of it, with the lines of the probe after each fault. The probe alone is let go here.
 fn attack_subject<'n, D: Disk, W: TextOut, P: Progress + Remarks>(
     disk: &mut D,
     subject: Subject<'n, '_>,
@@ -82,21 +101,38 @@ fn attack_subject<'n, D: Disk, W: TextOut, P: Progress + Remarks>(
 ) -> Result<(), Fault<'n>>
     requires { length subject.words.now < 65536 }
     ensures { Does D.does W.contents W.failures disk.old disk.new out.old out.new result
-        (IsAttacked subject.entry (attack_asked_by asked.entry)) }
+        (CarriedThen asked.entry.instructions
+        (λ subject. IsAttacked subject (attack_asked_by asked.entry)) subject.entry) }
 {
+    carry_through(disk.alloc(), subject, asked.instructions, progress)?;
     let target = target_of(subject.commands, sweep_of(asked))?;
     let probe = probe_of(disk, asked.probe)?;
-    let asked_after = lent(&probe).unwrap_or(b"");
     let attacking = Attacking {
         subject,
-        probe: asked_after,
+        probe: lent(&probe).unwrap_or(b""),
         asked,
     };
-    match told_by(disk.alloc(), attacking, target, progress) {
+    attack_target(disk.alloc(), attacking, target, out, progress)
+}
+
+// Attacks this, and writes the report.
+fn attack_target<'n, W: TextOut, P: Progress + Remarks>(
+    alloc: Global,
+    attacking: Attacking<'n, '_>,
+    target: Target,
+    out: &mut W,
+    progress: &mut P,
+) -> Result<(), Fault<'n>>
+    requires short { length attacking.subject.words.now < 65536 }
+    requires among { IsAmong target }
+    ensures { Writes W.contents W.failures out.old out.new result
+        (λ ended text. IsTargetAttacked attacking.entry target.entry ended text []) }
+{
+    match told_by(alloc, attacking, target, progress) {
         Ok(told) => write_attack(&told.text, told.is_accepted, out),
         Err(cause) => {
-            remark_on(disk.alloc(), lent(&probe), cause, progress);
-            Err(attack_fault(subject.names, cause))
+            remark_on(alloc, attacking.probe, cause, progress);
+            Err(attack_fault(attacking.subject.names, cause))
         }
     }
 }
@@ -127,8 +163,8 @@ pub(crate) fn behind_of(asked: AskedAttack<'_, '_>) -> Behind
 }
 
 // Says why lines of the probe were not carried out, if they were not.
-fn remark_on<M: Remarks>(alloc: Global, probe: Option<&[u8]>, cause: AttackFault, remarks: &mut M) {
+fn remark_on<M: Remarks>(alloc: Global, probe: &[u8], cause: AttackFault, remarks: &mut M) {
     if let AttackFault::Probe(fault) = cause {
-        remark_on_probe(alloc, probe, TearFault::Probe(fault), remarks);
+        remark_on_probe(alloc, Some(probe), TearFault::Probe(fault), remarks);
     }
 }

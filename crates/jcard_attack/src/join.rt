@@ -1,8 +1,8 @@
 //! Joining the lines of all parts of the faults of a command to the report.
-ghost use Rattle.std.specs.Prelude.{◌≡◌, ◌++◌, ◌<◌, ◌≤◌, [], List, ℕ, true, false, IfOk, MatchOption, MatchResult, is_some, length, map, option_map, replicate, slice_get};
+ghost use Rattle.std.specs.Prelude.{◌≡◌, ◌++◌, ◌<◌, ◌≤◌, [], List, ℕ, true, false, IfOk, MatchOption, MatchResult, OnOk, is_some, length, map, option_map, replicate, slice_get};
 ghost use Rattle.std.specs.Borrow.{Bor};
 ghost use Rattle.jcard_attack.specs.PartLines.{AreNoLines, AreReadTo, IsJoined, IsMore, IsNoMore, IsNoReport, IsReport, IsReportOf, IsTellable, IsUnjoined};
-ghost use Rattle.jcard_attack.specs.PartLines.{first_name, name_told, shares_text, tells, told_accepted, told_as, verdict_told};
+ghost use Rattle.jcard_attack.specs.PartLines.{accepted_told, first_name, name_told, shares_text, silence_told, tells, told_accepted, told_as, verdict_told};
 ghost use Rattle.jcard_attack.specs.Report.{any_accepted, report_text, told_by};
 ghost use Rattle.jcard_attack.specs.declared.outcomes.AttackSweep.{AttackSweep as AnAttackSweep};
 
@@ -85,14 +85,38 @@ fn push_verdict(alloc: Global, text: &mut Vec<u8>, faults: &[ToldFault]) -> Resu
     ensures { IfOk result (λ is_accepted. (text.new.items ≡ text.old.items ++ verdict_told (map told_by faults.now))
         × (is_accepted ≡ is_some (slice_get (told_accepted (map told_by faults.now)) 0))) }
 {
-    let accepted = told_as(alloc, b"ACCEPTED", faults)?;
-    let silent = told_as(alloc, b"CHANGED IN SILENCE", faults)?;
-    let first_accepted = first_name(alloc, &accepted)?;
-    let first_silent = first_name(alloc, &silent)?;
-    push_accepted(text, faults.len(), accepted.len(), lent(&first_accepted))?;
-    push_silence(text, silent.len(), lent(&first_silent))?;
+    let is_accepted = push_told_accepted(alloc, text, faults)?;
+    push_told_silent(alloc, text, faults)?;
     text.extend_from_slice(b"\n")?;
-    Ok(first_accepted.is_some())
+    Ok(is_accepted)
+}
+
+// Writes how many of these faults were accepted, and the first; whether one was.
+fn push_told_accepted(
+    alloc: Global,
+    text: &mut Vec<u8>,
+    faults: &[ToldFault],
+) -> Result<bool, AllocError>
+    ensures { IfOk result (λ is_accepted. (text.new.items ≡ text.old.items ++ accepted_told (map told_by faults.now))
+        × (is_accepted ≡ is_some (slice_get (told_accepted (map told_by faults.now)) 0))) }
+{
+    let accepted = told_as(alloc, b"ACCEPTED", faults)?;
+    let first = first_name(alloc, &accepted)?;
+    push_accepted(text, faults.len(), accepted.len(), lent(&first))?;
+    Ok(first.is_some())
+}
+
+// Writes how many of these faults changed something in silence, and the first.
+fn push_told_silent(
+    alloc: Global,
+    text: &mut Vec<u8>,
+    faults: &[ToldFault],
+) -> Result<(), AllocError>
+    ensures { OnOk result (text.new.items ≡ text.old.items ++ silence_told (map told_by faults.now)) }
+{
+    let silent = told_as(alloc, b"CHANGED IN SILENCE", faults)?;
+    let first = first_name(alloc, &silent)?;
+    push_silence(text, silent.len(), lent(&first))
 }
 
 // The faults of which what came begins with these words.

@@ -2,7 +2,7 @@
 ghost use Rattle.std.specs.Prelude.{◌≡◌, ◌<◌, List, [], ℕ, length, IfOk, IfSome};
 ghost use Rattle.hex.specs.Hex.{encode_upper};
 ghost use Rattle.jcard_attack.specs.Aftermaths.{IsAftermath, glitch_line};
-ghost use Rattle.jcard_attack.specs.KeptCard.{HasStruck, IsKeptFor, Leaves};
+ghost use Rattle.jcard_attack.specs.KeptCard.{HasStruck, IsKeptFor, Leaves, LeavesHeap};
 ghost use Rattle.jcard_attack.specs.declared.aftermaths.Attacked.{Attacked as AnAttacked};
 
 use crate::aftermaths::{Attacked, push_glitch};
@@ -36,6 +36,13 @@ pub(crate) fn kept_for(alloc: Global, words: &[u16], attacked: Attacked) -> Opti
     let store = FuseStore::new(MemStore::of(copy));
     let begun = begin_script(alloc, store, attacked.instructions, attacked.before)?;
     Some(AtCommand { begun, command })
+}
+
+/// Ends the card that is kept, if it is. Of its store less is let go than of the card.
+pub(crate) fn end_kept(kept: Option<AtCommand>) {
+    if let Some(kept) = kept {
+        let _store = kept.begun.into_store();
+    }
 }
 
 impl AtCommand {
@@ -94,12 +101,20 @@ fn left_by(alloc: Global, card: BegunScript<MemStore>, probe: &[u8]) -> Option<L
     if probe.is_empty() {
         return left_alone(alloc, card);
     }
-    let store = card.copied_store()?;
-    let Ok(words) = recovered(words_of(store)) else {
-        return None;
-    };
+    let words = words_left(&card);
     let answers = probed(alloc, card, probe)?;
-    Some(Left { words, answers })
+    Some(Left {
+        words: words?,
+        answers,
+    })
+}
+
+// The words that a recovery finds of what a copy of a card leaves.
+fn words_left(card: &BegunScript<MemStore>) -> Option<Vec<u16>>
+    ensures { IfSome result (λ words. LeavesHeap card.now words.items) }
+{
+    let store = card.copied_store()?;
+    recovered(words_of(store)).ok()
 }
 
 // What it leaves where nothing is asked.

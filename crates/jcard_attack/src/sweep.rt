@@ -3,14 +3,14 @@ ghost use Rattle.std.specs.Prelude.{◌≡◌, ◌<◌, ◌++◌, ◌∷◌, [],
 ghost use Rattle.jcard_attack.specs.Aftermaths.{IsAftermath, IsUnfinished};
 ghost use Rattle.jcard_attack.specs.KeptCard.{IsKeptFor};
 ghost use Rattle.jcard_attack.specs.Models.{faults_tried, kinds_tried};
-ghost use Rattle.jcard_attack.specs.Sweep.{AreStruckBy, IsStruck, IsSwept, IsTraceFault, IsUnswept, asked_in};
+ghost use Rattle.jcard_attack.specs.Sweep.{AreStruckBy, IsStruck, IsSwept, IsTraceFault, IsUnswept, asked_in, faults_of};
 ghost use Rattle.jcard_attack.specs.declared.aftermaths.Attacked.{Attacked as AnAttacked};
 ghost use Rattle.jcard_attack.specs.declared.aftermaths.AttackFault.TheVariants.{NoMemory};
 ghost use Rattle.jcard_sweeps.specs.Report.{AreOfImage};
 
 use crate::aftermaths::{AttackFault, Attacked, aftermath, begun};
 use crate::judgement::{compared, gives_access, is_same_as, judged, last_answer};
-use crate::kept_card::{AtCommand, kept_for};
+use crate::kept_card::{AtCommand, end_kept, kept_for};
 use crate::models::{faults_tried, kinds_tried};
 use crate::objects::{aftermath_told, objects_before};
 use crate::outcomes::{Aftermath, AttackSweep, Struck};
@@ -88,10 +88,8 @@ pub fn attack(
     }
     let before = begun(alloc, words, attacked)?;
     let objects = objects_before(alloc, sought.objects, &before)?;
-    let instructions = instructions_of(alloc, words, attacked, sought.names)?;
-    let faults = faults_at(alloc, sought, instructions.len())?;
     let baseline = baseline_of(sought, &objects, &before, &undisturbed);
-    let strikes = strikes_of(alloc, words, attacked, baseline, asked_in(&faults, part))?;
+    let (instructions, strikes) = struck_beside(alloc, words, attacked, baseline, sought, part)?;
     let undisturbed = aftermath_told(alloc, &objects, undisturbed)?;
     Ok(AttackSweep {
         before,
@@ -121,6 +119,28 @@ fn baseline_of<'a>(
     }
 }
 
+// What is reported of each instruction, and what the faults came to that are asked for.
+fn struck_beside(
+    alloc: Global,
+    words: &[u16],
+    attacked: Attacked,
+    baseline: Baseline,
+    sought: Sought,
+    part: Option<Share>,
+) -> Result<(Vec<Vec<u8>>, Vec<Struck>), AttackFault>
+    requires short { length words.now < 65536 }
+    requires among { IfSome part (λ share. share.first < share.step) }
+    requires whole { AreOfImage baseline.objects.now }
+    ensures { MatchResult result
+        (λ r. AreStruckBy words.now attacked.entry baseline.entry (faults_of sought.entry part (length r.0.items)) r.1.items)
+        (λ fault. IsUnswept words.now attacked.entry fault) }
+{
+    let instructions = instructions_of(alloc, words, attacked, sought.names)?;
+    let faults = faults_at(alloc, sought, instructions.len())?;
+    let strikes = strikes_of(alloc, words, attacked, baseline, asked_in(&faults, part))?;
+    Ok((instructions, strikes))
+}
+
 // What these faults came to.
 fn strikes_of(
     alloc: Global,
@@ -142,7 +162,9 @@ fn strikes_of(
         card: kept_for(alloc, words, attacked),
         baseline,
     };
-    strike_each(alloc, &shared, faults)
+    let strikes = strike_each(alloc, &shared, faults);
+    end_kept(shared.card);
+    strikes
 }
 
 // The faults that are tried at this many instructions.

@@ -50,12 +50,16 @@ abbrev pub IsUncarried : ℕ → Subject → Fault → Type 0
 IsUncarried budget subject fault = (cause : RunFault) × IsRunFault budget subject.words.now subject.script.now cause
     × IsTearFault subject.names.image.now (told_run_fault cause) fault
 
--- the words of the image with this name and this script were read, the whole script was carried out over these words, with at most this many
--- instructions a command, and then it went on so with it
+-- the whole script was carried out over the words, with at most this many instructions a command, and then it went on so with it
+abbrev pub CarriedThen : ℕ → (Subject → Tells) → Subject → Tells
+CarriedThen budget next subject = FindsThen (λ (done : Unit {0}). IsCarried budget subject) (IsUncarried budget subject) (λ done. next subject)
+
+-- the same of this script over these words of the image with this name
+abbrev pub CarriesOver : List ℕ → List ℕ → List ℕ → ℕ → (Subject → Tells) → Tells
+CarriesOver image w text budget next = FindsThen (IsSubject image w text) (λ fault. fault ≡ NoMemory) (CarriedThen budget next)
+
+-- the same of the script and the image with these names, which were read
 abbrev pub CarriesThen : List ℕ → List ℕ → ℕ → (Subject → Tells) → Tells
 CarriesThen image script budget next =
     ReadsThen (IsImageRead image) (IsImageUnread image) (λ w.
-    ReadsThen (IsScriptRead script) (IsUnread script) (λ text.
-    FindsThen (IsSubject image w text) (λ fault. fault ≡ NoMemory) (λ subject.
-    FindsThen (λ (done : Unit {0}). IsCarried budget subject) (IsUncarried budget subject) (λ done.
-    next subject))))
+    ReadsThen (IsScriptRead script) (IsUnread script) (λ text. CarriesOver image w text budget next))

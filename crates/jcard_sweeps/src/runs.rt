@@ -164,6 +164,7 @@ pub fn probed(alloc: Global, card: BegunScript<MemStore>, probe: &[u8]) -> Optio
     ensures { IfSome result (λ answers. (last : FuseStoreValue) × AnswersLines card probe.now answers.items last) }
 {
     let Ok(mut reader) = MemText::new(alloc, probe, 0) else {
+        let _store = card.into_store(); // of which less is let go than of a card
         return None;
     };
     let mut writer = KeptText::new(alloc);
