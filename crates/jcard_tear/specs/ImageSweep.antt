@@ -24,13 +24,15 @@ IsCuttingRead subject asked cutting deeds = (cutting.subject ≡ subject) × (cu
 abbrev pub IsUncutTold : Cutting → Target → Fault → Type 0
 IsUncutTold cutting target fault = (cause : TearFault) × IsUncut cutting target cause × IsTearFault cutting.subject.names.image.now cause fault
 
+-- this was cut, and the report was written
+abbrev pub IsTargetTorn : Cutting → Target → Tells
+IsTargetTorn cutting target = FindsThen (IsCut cutting target) (IsUncutTold cutting target) (λ told. WithNoFile (IsReportTold told.text.items told.is_whole))
+
 -- what is meant of the commands of a script was found, the probe was read, that was cut, and the report was written
 abbrev pub IsTorn : Subject → SweepAsked → Tells
 IsTorn subject asked =
     FindsThen (IsTarget asked subject.commands.now) (IsNoTarget asked subject.commands.now) (λ target.
-    ReadsThen (IsCuttingRead subject asked) (IsProbeUnread asked.probe) (λ cutting.
-    FindsThen (IsCut cutting target) (IsUncutTold cutting target) (λ told.
-    WithNoFile (IsReportTold told.text.items told.is_whole))))
+    ReadsThen (IsCuttingRead subject asked) (IsProbeUnread asked.probe) (λ cutting. IsTargetTorn cutting target))
 
 -- the words of the image and the script were read, the whole script was carried out over these words, and what is meant of its commands was cut,
 -- on cards in memory alone

@@ -7,7 +7,7 @@ ghost use Rattle.jcard_sweeps.specs.declared.command.Command.{Command as Command
 ghost use Rattle.jcard_tear.specs.Sweep.{AreCuts, IsCutAt, IsToldAs, IsUncutAt, cut_script};
 ghost use Rattle.jcard_sweeps.specs.Report.{AreOfImage};
 
-use crate::kept_card::{AtCommand, KeptCut, kept_for};
+use crate::kept_card::{AtCommand, KeptCut, end_kept, kept_for};
 use crate::last_cut::{LastCut, reported_cut};
 use crate::recoveries::recoveries;
 use crate::sweep::{left_by_probe, probe_fault};
@@ -89,9 +89,32 @@ pub(crate) fn cut_all<P: Progress>(
         card: kept_for(alloc, words, command),
         baseline,
     };
+    let cuts = cuts_of(alloc, &shared, share, progress);
+    end_kept(shared.card);
+    cuts
+}
+
+// What the cuts in a part left. What all share is the caller's.
+fn cuts_of<P: Progress>(
+    alloc: Global,
+    shared: &Shared<'_>,
+    share: Share,
+    progress: &mut P,
+) -> Result<Vec<Cut>, TearFault>
+    requires short { length shared.now.words.now < 65536 }
+    requires whole { AreOfImage shared.now.baseline.objects.now }
+    requires card { IfSome shared.now.card (λ card. IsKeptFor shared.now.words.now shared.now.command card) }
+    requires known { shared.now.baseline.is_known ≡ true
+        → IsKnown shared.now.command shared.now.baseline.before.now }
+    ensures cut { MatchResult result
+        (λ cuts. AreCuts shared.now.words.now shared.now.command shared.now.baseline share.first share.step cuts.items
+        × IsUncutAt shared.now.words.now shared.now.command (share.first + share.step * length cuts.items))
+        (λ fault. IsUncutFor shared.now.words.now shared.now.command share.step fault) }
+    ensures below { IfOk result (λ cuts. share.first + share.step * length cuts.items < 65536) }
+{
     let mut last = None;
     let mut cuts = Vec::new(alloc);
-    push_cuts(alloc, &shared, share, &mut last, &mut cuts, progress)?;
+    push_cuts(alloc, shared, share, &mut last, &mut cuts, progress)?;
     Ok(cuts)
 }
 

@@ -1,8 +1,10 @@
 //! `jcard tear`: cutting the power within commands of a script, after each number of their word writes.
-ghost use Rattle.std.specs.Prelude.{◌<◌, length};
-ghost use Rattle.jcard_files.specs.Effects.{Does};
-ghost use Rattle.jcard_tear.specs.ImageSweep.{IsTear, IsTorn};
+ghost use Rattle.std.specs.Prelude.{◌<◌, [], length};
+ghost use Rattle.jcard_files.specs.Effects.{Does, Writes};
+ghost use Rattle.jcard_tear.specs.ImageSweep.{IsTargetTorn, IsTear, IsTorn};
+ghost use Rattle.jcard_sweeps.specs.Subject.{CarriedThen, CarriesOver};
 ghost use Rattle.jcard_sweeps.specs.SweepAsked.{sweep_asked_by};
+ghost use Rattle.jcard_sweeps.specs.Targets.{IsAmong};
 
 use crate::cuts::FollowUp;
 use crate::target_cuts::{Cutting, cut};
@@ -18,8 +20,9 @@ use jcard_sweeps::reported_faults::tear_fault;
 use jcard_sweeps::script_fault::Names;
 use jcard_sweeps::script_lines::commands;
 use jcard_sweeps::subject::{Subject, carry_through, image_words, lent, probe_of};
-use jcard_sweeps::targets::target_of;
+use jcard_sweeps::targets::{Target, target_of};
 use jcard_texts::streams::TextOut;
+use std::alloc::Global;
 
 /// `jcard tear`: cuts a command of the script, or each, after each number of its writes, each time on a card of a copy of the image's
 /// words, and says what is left. The whole script is carried out before, and refused as `jcard run` refuses it. The image is read, and
@@ -36,7 +39,25 @@ pub fn tear_image<'n, D: Disk, W: TextOut, P: Progress + Remarks>(
 {
     let words = image_words(disk, image)?;
     let script = script_of(disk, asked.script)?;
-    let Ok(commands) = commands(disk.alloc(), &script) else {
+    tear_script(disk, image, &words, &script, asked, out, progress)
+}
+
+// Cuts what is asked for of this script over these words of an image. The commands alone are let go here.
+fn tear_script<'n, D: Disk, W: TextOut, P: Progress + Remarks>(
+    disk: &mut D,
+    image: &'n str,
+    words: &[u16],
+    script: &[u8],
+    asked: Asked<'n>,
+    out: &mut W,
+    progress: &mut P,
+) -> Result<(), Fault<'n>>
+    requires { length words.now < 65536 }
+    ensures { Does D.does W.contents W.failures disk.old disk.new out.old out.new result
+        (CarriesOver image.now words.now script.now asked.entry.behind.instructions
+        (λ subject. IsTorn subject (sweep_asked_by asked.entry))) }
+{
+    let Ok(commands) = commands(disk.alloc(), script) else {
         return Err(Fault::NoMemory);
     };
     let subject = Subject {
@@ -44,15 +65,14 @@ pub fn tear_image<'n, D: Disk, W: TextOut, P: Progress + Remarks>(
             image,
             script: asked.script,
         },
-        words: &words,
-        script: &script,
+        words,
+        script,
         commands: &commands,
     };
-    carry_through(disk.alloc(), subject, asked.behind.instructions, progress)?;
     tear_subject(disk, subject, asked, out, progress)
 }
 
-// Cuts what is asked for of a script that was carried out, with the lines of the probe after each cut, and writes the report.
+// Carries the script out, and cuts what is asked for of it, with the lines of the probe after each cut. The probe alone is let go here.
 fn tear_subject<'n, D: Disk, W: TextOut, P: Progress + Remarks>(
     disk: &mut D,
     subject: Subject<'n, '_>,
@@ -62,8 +82,10 @@ fn tear_subject<'n, D: Disk, W: TextOut, P: Progress + Remarks>(
 ) -> Result<(), Fault<'n>>
     requires { length subject.words.now < 65536 }
     ensures { Does D.does W.contents W.failures disk.old disk.new out.old out.new result
-        (IsTorn subject.entry (sweep_asked_by asked.entry)) }
+        (CarriedThen asked.entry.behind.instructions
+        (λ subject. IsTorn subject (sweep_asked_by asked.entry)) subject.entry) }
 {
+    carry_through(disk.alloc(), subject, asked.behind.instructions, progress)?;
     let target = target_of(subject.commands, asked)?;
     let probe = probe_of(disk, asked.probe)?;
     let cutting = Cutting {
@@ -73,11 +95,27 @@ fn tear_subject<'n, D: Disk, W: TextOut, P: Progress + Remarks>(
             behind: asked.behind,
         },
     };
-    match cut(disk.alloc(), cutting, target, progress) {
+    tear_target(disk.alloc(), cutting, target, out, progress)
+}
+
+// Cuts this, and writes the report.
+fn tear_target<'n, W: TextOut, P: Progress + Remarks>(
+    alloc: Global,
+    cutting: Cutting<'n, '_>,
+    target: Target,
+    out: &mut W,
+    progress: &mut P,
+) -> Result<(), Fault<'n>>
+    requires short { length cutting.subject.words.now < 65536 }
+    requires among { IsAmong target }
+    ensures { Writes W.contents W.failures out.old out.new result
+        (λ ended text. IsTargetTorn cutting.entry target.entry ended text []) }
+{
+    match cut(alloc, cutting, target, progress) {
         Ok(told) => write_report(&told.text, told.is_whole, out),
         Err(cause) => {
-            remark_on_probe(disk.alloc(), cutting.follow_up.probe, cause, progress);
-            Err(tear_fault(subject.names, cause))
+            remark_on_probe(alloc, cutting.follow_up.probe, cause, progress);
+            Err(tear_fault(cutting.subject.names, cause))
         }
     }
 }

@@ -63,6 +63,13 @@ fn keep_room(alloc: Global) {
     drop(room);
 }
 
+/// Ends the card that is kept, if it is. Of its store less is let go than of the card.
+pub(crate) fn end_kept(kept: Option<AtCommand>) {
+    if let Some(kept) = kept {
+        let _store = kept.begun.into_store();
+    }
+}
+
 impl AtCommand {
     /// Cuts a copy of the card after this many writes of the command, and recovers what is left. Nothing where memory is refused, or
     /// where the image is of the first version.

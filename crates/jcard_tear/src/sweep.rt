@@ -4,12 +4,14 @@ ghost use Rattle.jcard_tear.specs.KeptCard.{HasAnswered, IsKnown};
 ghost use Rattle.jcard_tear.specs.Sweep.{IsBegun, IsDone, IsSwept, IsSweptBy};
 ghost use Rattle.jcard_sweeps.specs.Runs.{IsLeft, IsRecovered};
 ghost use Rattle.jcard_sweeps.specs.Faults.{IsImageFault, IsProbeFault};
+ghost use Rattle.jcard_sweeps.specs.Report.{AreObjectsAsked, AreOfImage};
 ghost use Rattle.jcard_tear.specs.Faults.{IsUncutFor, told_probe_fault};
 ghost use Rattle.jc_objects.specs.Pins.{AreTriesIn};
 
 use crate::answers::answers_over;
 use crate::cuts::{Baseline, cut_all};
 use crate::recoveries::are_equal;
+use jc_objects::image_objects::ImageObjects;
 use jc_objects::pins::try_words;
 use jc_packages::fault::ReadFault;
 use jcard_outcomes::part::Share;
@@ -22,6 +24,14 @@ use jcard_sweeps::report::{left_told, objects_asked};
 use jcard_sweeps::runs::{RunFault, left, recovered, run_copy, run_told};
 use jcard_sweeps::sweep_fault::{DAMAGED, TearFault};
 use std::alloc::{AllocError, Global};
+
+// Which words no comparison of cuts looks at, which are compared leniently, and which objects stood before, where they are asked for.
+#[derive(Drop)]
+struct Measure {
+    spared: Vec<u16>,
+    lenient: Vec<u16>,
+    objects: Option<ImageObjects>,
+}
 
 /// Carries out the script up to the command on a card of a copy of these words, and then cuts the command after each number
 /// of its writes, each time on a card of a copy of its own. After each cut comes a reset, and then the probe; and as many
@@ -57,25 +67,46 @@ pub(crate) fn tear_share<P: Progress>(
     let (answer, after, by_calls) = done(alloc, words, command, progress)?;
     let (before, is_known) = begun(alloc, words, command)?;
     progress.tell_image(&before.words);
-    let spared = tries_in(alloc, &after)?;
-    let lenient = joined(alloc, &spared, &by_calls)?;
-    let objects = objects_asked(alloc, command.behind.objects, &before)?;
+    let measure = measure_of(alloc, command.behind.objects, &before, &after, &by_calls)?;
     let baseline = Baseline {
         before: &before,
         is_known,
         after: &after,
-        spared: &spared,
-        lenient: &lenient,
-        objects: &objects,
+        spared: &measure.spared,
+        lenient: &measure.lenient,
+        objects: &measure.objects,
     };
     let cuts = cut_all(alloc, words, command, baseline, share, progress)?;
-    let after = left_told(alloc, &objects, after)?;
+    let after = left_told(alloc, &measure.objects, after)?;
     Ok(Sweep {
         before,
         answer,
         after,
         cuts,
         depth: command.behind.depth,
+    })
+}
+
+// How the cuts are measured of a command that leaves this, and whose non-atomic calls write these words.
+fn measure_of(
+    alloc: Global,
+    objects: bool,
+    before: &Left,
+    after: &Left,
+    by_calls: &[u16],
+) -> Result<Measure, TearFault>
+    ensures measured { MatchResult result (λ m. AreTriesIn after.now.words.items m.spared.items
+        × (m.lenient.items ≡ m.spared.items ++ by_calls.now) × AreObjectsAsked objects before.now m.objects)
+        (λ fault. IsImageFault fault) }
+    ensures whole { IfOk result (λ m. AreOfImage m.objects) }
+{
+    let spared = tries_in(alloc, after)?;
+    let lenient = joined(alloc, &spared, by_calls)?;
+    let objects = objects_asked(alloc, objects, before)?;
+    Ok(Measure {
+        spared,
+        lenient,
+        objects,
     })
 }
 

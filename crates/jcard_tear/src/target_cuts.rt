@@ -1,13 +1,16 @@
 //! Cutting commands of a script over the words of an image, and what is reported of that.
-ghost use Rattle.std.specs.Prelude.{◌<◌, length, MatchResult};
-ghost use Rattle.jcard_tear.specs.TargetCuts.{IsCut, IsUncut};
+ghost use Rattle.std.specs.Prelude.{◌≡◌, ◌<◌, ◌++◌, Bool, length, IfOk, MatchResult};
+ghost use Rattle.jcard_outcomes.specs.CommandShares.{share_text};
+ghost use Rattle.jcard_outcomes.specs.Part.{head_text};
+ghost use Rattle.jcard_outcomes.specs.Report.{verdicts_text};
+ghost use Rattle.jcard_tear.specs.TargetCuts.{AreAllWhole, IsCut, IsUncut};
 ghost use Rattle.jcard_sweeps.specs.Targets.{IsAmong};
 
 use crate::cuts::FollowUp;
 use crate::each::{tear_each, tear_line};
 use crate::parts::tear_line_part;
 use jcard_outcomes::command_shares::share_lines;
-use jcard_outcomes::each::{are_all_or_nothing, verdicts};
+use jcard_outcomes::each::{LineSweep, are_all_or_nothing, verdicts};
 use jcard_outcomes::part::{Share, part_lines};
 use jcard_outcomes::report::report;
 use jcard_outcomes::verdict::is_all_or_nothing;
@@ -18,7 +21,7 @@ use jcard_sweeps::shares::share_in;
 use jcard_sweeps::subject::Subject;
 use jcard_sweeps::sweep_fault::TearFault;
 use jcard_sweeps::targets::Target;
-use std::alloc::Global;
+use std::alloc::{AllocError, Global};
 
 /// How commands of a script are cut.
 #[derive(Clone, Copy, Drop)]
@@ -143,11 +146,25 @@ fn cut_each_in<P: Progress>(
     let name = commands_name(alloc, words, subject.script, probe, behind, share.step)?;
     let commands = share_in(subject.commands, share);
     let sweeps = tear_each(alloc, words, commands, follow_up, progress)?;
-    let verdicts = verdicts(alloc, &sweeps, behind.objects)?;
-    let is_whole = are_all_or_nothing(&sweeps);
-    let text = share_lines(alloc, &name, share, is_whole, &verdicts)?;
+    let text = share_told(alloc, &name, share, &sweeps, behind.objects)?;
     Ok(ToldCuts {
         text,
         is_whole: true,
     })
+}
+
+// The text of this part of the commands, of which this was reported.
+fn share_told(
+    alloc: Global,
+    name: &[u8],
+    share: Share,
+    sweeps: &[LineSweep],
+    objects: bool,
+) -> Result<Vec<u8>, AllocError>
+    ensures { IfOk result (λ text. (whole : Bool) × AreAllWhole sweeps.now whole × (text.items
+        ≡ head_text name.now ++ share_text share.first share.step whole (verdicts_text objects sweeps.now))) }
+{
+    let verdicts = verdicts(alloc, sweeps, objects)?;
+    let is_whole = are_all_or_nothing(sweeps);
+    share_lines(alloc, name, share, is_whole, &verdicts)
 }

@@ -1,9 +1,6 @@
-use Rattle.std.proofs.Common.{◌∙◌, [], ◌++◌, ap, refl, inl, inr, map}
+use Rattle.std.proofs.Common.{[], ◌++◌, refl, inl, inr}
 use Rattle.std.proofs.lemmas.Result.{err_from_is_err_and}
 use Rattle.jcard_texts.proofs.Known.{appends_same}
-use Rattle.jcard_sweeps.specs.ScriptLines.{commands_of, line_of}
-use Rattle.jcard_sweeps.specs.Subject.{IsSubject}
-use Rattle.jcard_sweeps.specs.declared.subject.Subject.{Subject}
 use Rattle.jcard_files.proofs.Effects.{unfailed}
 use Rattle.jcard_tear.proofs.image_sweep.tear_image.Goals as goal
 
@@ -31,81 +28,19 @@ returns-in_err-script g c =
       unfailed _ fault c.in_err-script.ensures.unwritten,
     )
 
-pub returns-in_default : goal.returns-in_default
-returns-in_default g c =
-    let image = c.in_ok-words.ensures.read in
-    let script = c.in_ok-script.ensures.read in
-    let text = c.in_ok-script.script.items in (
-      (
-        [],
-        image.0 ++ (script.0 ++ []),
-        appends_same _,
-        inr (c.in_ok-words.words.items, image.0, script.0 ++ [], image.2, refl, inr (text, script.0, [], script.2, refl, inl (_, refl, refl, refl, refl))),
-        g.met.D.Disk.then _ _ _ image.0 (script.0 ++ []) image.1 (g.met.D.Disk.then _ _ _ script.0 [] script.1 (g.met.D.Disk.none _)),
-      ),
-      refl,
-    )
-
-pub returns-in_err-carry_through : goal.returns-in_err-carry_through
-returns-in_err-carry_through g c =
-    let image = c.in_ok-words.ensures.read in
-    let script = c.in_ok-script.ensures.read in
-    let text = c.in_ok-script.script.items in
-    let fault = c.in_err-carry_through.field-0.0 in
-    let subject : Subject = record {
-      names = record { image = c.args.image; script = c.args.asked.script };
-      words = c.deref-2.result;
-      script = c.deref-3.result;
-      commands = c.deref-4.result;
-    } in
-    let commands = ap (map line_of) c.deref-4.ensures.value ∙ (c.in-Ok.ensures ∙ ap commands_of c.deref.ensures.value) in
-    let is_subject : IsSubject c.args.image.now c.in_ok-words.words.items text subject = (refl, c.deref-2.ensures.value, c.deref-3.ensures.value, commands) in
-    let p = err_from_is_err_and c.from_residual-in_err-carry_through.result c.from_residual-in_err-carry_through.ensures.1 in
-    rw (p.1, p.2) (
-      (
-        [],
-        image.0 ++ (script.0 ++ []),
-        appends_same _,
-        inr (
-          c.in_ok-words.words.items,
-          image.0,
-          script.0 ++ [],
-          image.2,
-          refl,
-          inr (text, script.0, [], script.2, refl, inr (subject, is_subject, inl (fault, refl, refl, refl, c.in_err-carry_through.ensures.carried))),
-        ),
-        g.met.D.Disk.then _ _ _ image.0 (script.0 ++ []) image.1 (g.met.D.Disk.then _ _ _ script.0 [] script.1 (g.met.D.Disk.none _)),
-      ),
-      unfailed _ fault c.in_err-carry_through.ensures.unwritten,
-    )
-
 pub returns : goal.returns
 returns g c =
     let image = c.in_ok-words.ensures.read in
     let script = c.in_ok-script.ensures.read in
     let text = c.in_ok-script.script.items in
-    let torn = c.tear_subject.ensures.0 in
-    let subject : Subject = record {
-      names = record { image = c.args.image; script = c.args.asked.script };
-      words = c.deref-2.result;
-      script = c.deref-3.result;
-      commands = c.deref-4.result;
-    } in
-    let commands = ap (map line_of) c.deref-4.ensures.value ∙ (c.in-Ok.ensures ∙ ap commands_of c.deref.ensures.value) in
-    let is_subject : IsSubject c.args.image.now c.in_ok-words.words.items text subject = (refl, c.deref-2.ensures.value, c.deref-3.ensures.value, commands) in (
+    let told = rw (c.deref.ensures.value, c.deref-2.ensures.value) at c.tear_script.ensures in
+    let on = told.0 in (
       (
-        torn.0,
-        image.0 ++ (script.0 ++ torn.1),
-        torn.2,
-        inr (
-          c.in_ok-words.words.items,
-          image.0,
-          script.0 ++ torn.1,
-          image.2,
-          refl,
-          inr (text, script.0, torn.1, script.2, refl, inr (subject, is_subject, inr (tt, c.in_ok-carry_through.ensures.carried, torn.3))),
-        ),
-        g.met.D.Disk.then _ _ _ image.0 (script.0 ++ torn.1) image.1 (g.met.D.Disk.then _ _ _ script.0 torn.1 script.1 torn.4),
+        on.0,
+        image.0 ++ (script.0 ++ on.1),
+        on.2,
+        inr (c.in_ok-words.words.items, image.0, script.0 ++ on.1, image.2, refl, inr (text, script.0, on.1, script.2, refl, on.3)),
+        g.met.D.Disk.then _ _ _ image.0 (script.0 ++ on.1) image.1 (g.met.D.Disk.then _ _ _ script.0 on.1 script.1 on.4),
       ),
-      c.tear_subject.ensures.1,
+      told.1,
     )

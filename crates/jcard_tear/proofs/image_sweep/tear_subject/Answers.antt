@@ -4,68 +4,62 @@ use Rattle.jcard_texts.proofs.Known.{appends_same}
 use Rattle.jcard_sweeps.specs.SweepAsked.{sweep_asked_by}
 use Rattle.jcard_sweeps.specs.Subject.{IsProbeRead}
 use Rattle.jcard_sweeps.specs.Texts.{text_of}
-use Rattle.jcard_sweeps.specs.Output.{IsReportTold}
 use Rattle.jcard_sweeps.proofs.NamedParts.{among}
 use Rattle.jcard_files.proofs.Effects.{unfailed}
 use Rattle.jcard_tear.proofs.image_sweep.tear_subject.Goals as goal
 
-pub returns-in_err-target : goal.returns-in_err-target
-returns-in_err-target g c =
-    let fault = c.in_err-target.field-0.0 in
+pub returns-in_err-carry_through : goal.returns-in_err-carry_through
+returns-in_err-carry_through g c =
+    let fault = c.in_err-carry_through.field-0.0 in
     let p = err_from_is_err_and c.from_residual.result c.from_residual.ensures.1 in
     rw (p.1, p.2) (
-      ([], [], appends_same _, inl (fault, refl, refl, refl, c.in_err-target.ensures.found), g.met.D.Disk.none _),
+      ([], [], appends_same _, inl (fault, refl, refl, refl, c.in_err-carry_through.ensures.carried), g.met.D.Disk.none _),
+      unfailed _ fault c.in_err-carry_through.ensures.unwritten,
+    )
+
+pub returns-in_err-target : goal.returns-in_err-target
+returns-in_err-target g c =
+    let carried = c.in_ok-carry_through.ensures.carried in
+    let fault = c.in_err-target.field-0.0 in
+    let p = err_from_is_err_and c.from_residual-in_err-target.result c.from_residual-in_err-target.ensures.1 in
+    rw (p.1, p.2) (
+      ([], [], appends_same _, inr (tt, carried, inl (fault, refl, refl, refl, c.in_err-target.ensures.found)), g.met.D.Disk.none _),
       unfailed _ fault c.in_err-target.ensures.unwritten,
     )
 
 pub returns-in_err-probe : goal.returns-in_err-probe
 returns-in_err-probe g c =
+    let carried = c.in_ok-carry_through.ensures.carried in
     let read = c.in_err-probe.ensures.read in
     let fault = c.in_err-probe.field-0.0 in
     let p = err_from_is_err_and c.from_residual-in_err-probe.result c.from_residual-in_err-probe.ensures.1 in
     rw (p.1, p.2) (
-      ([], read.0, appends_same _, inr (c.in_ok-target.target, c.in_ok-target.ensures.found, inl (fault, refl, refl, read.2)), read.1),
+      (
+        [],
+        read.0,
+        appends_same _,
+        inr (tt, carried, inr (c.in_ok-target.target, c.in_ok-target.ensures.found, inl (fault, refl, refl, read.2))),
+        read.1,
+      ),
       unfailed _ fault c.in_err-probe.ensures.unwritten,
     )
 
-pub cut-requires-clause-among : goal.cut-requires-clause-among
-cut-requires-clause-among g c = among (sweep_asked_by c.args.asked) c.args.subject.commands.now c.in_ok-target.target c.in_ok-target.ensures.found
-
-pub returns-in-Ok : goal.returns-in-Ok
-returns-in-Ok g c =
-    let read = c.in_ok-probe.ensures.read in
-    let given = subst (λ given. IsProbeRead (text_of c.args.asked.probe) given read.0) (sym c.lent.ensures) read.2 in
-    let written = c.write_report.ensures.0 in
-    let told = subst (λ report. IsReportTold report c.in-Ok.told.is_whole c.write_report.result written.0) c.deref.ensures.value written.2 in (
-      (
-        written.0,
-        read.0 ++ [],
-        written.1,
-        inr (
-          c.in_ok-target.target,
-          c.in_ok-target.ensures.found,
-          inr (_, read.0, [], (refl, refl, given), refl, inr (c.in-Ok.told, c.in-Ok.ensures, (told, refl))),
-        ),
-        g.met.D.Disk.then _ _ _ read.0 [] read.1 (g.met.D.Disk.none _),
-      ),
-      c.write_report.ensures.1,
-    )
+pub tear_target-requires-clause-among : goal.tear_target-requires-clause-among
+tear_target-requires-clause-among g c =
+    among (sweep_asked_by c.args.asked) c.args.subject.commands.now c.in_ok-target.target c.in_ok-target.ensures.found
 
 pub returns : goal.returns
 returns g c =
+    let carried = c.in_ok-carry_through.ensures.carried in
     let read = c.in_ok-probe.ensures.read in
     let given = subst (λ given. IsProbeRead (text_of c.args.asked.probe) given read.0) (sym c.lent.ensures) read.2 in
-    let fault = c.tear_fault.result in (
+    let on = c.tear_target.ensures.0 in (
       (
-        [],
+        on.0,
         read.0 ++ [],
-        appends_same _,
-        inr (
-          c.in_ok-target.target,
-          c.in_ok-target.ensures.found,
-          inr (_, read.0, [], (refl, refl, given), refl, inl (fault, refl, refl, refl, (c.in-Err.cause, c.in-Err.ensures, c.tear_fault.ensures.told))),
-        ),
+        on.1,
+        inr (tt, carried, inr (c.in_ok-target.target, c.in_ok-target.ensures.found, inr (_, read.0, [], (refl, refl, given), refl, on.2))),
         g.met.D.Disk.then _ _ _ read.0 [] read.1 (g.met.D.Disk.none _),
       ),
-      unfailed _ fault c.tear_fault.ensures.unwritten,
+      c.tear_target.ensures.1,
     )

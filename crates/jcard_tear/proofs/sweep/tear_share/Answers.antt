@@ -16,13 +16,13 @@ returns-clause-swept g c = record {
       done = c.in_ok-answer.ensures;
       after = c.in_ok-after.ensures.words;
       told = c.in_ok-after.ensures.told;
-      spared = subst (AreTriesIn c.in_ok-answer.after.words.items) (sym c.deref-4.ensures.value) c.in_ok-spared.ensures;
+      spared = subst (AreTriesIn c.in_ok-answer.after.words.items) (sym c.deref-3.ensures.value) c.in_ok-measure.ensures.measured.0;
       lenient = (
         c.in_ok-answer.by_calls.items,
-        c.deref-5.ensures.value ∙ c.in_ok-lenient.ensures ∙ ap (λ l. l ++ c.deref-3.result.now) c.deref-2.ensures.value
-            ∙ ap (λ l. c.in_ok-spared.spared.items ++ l) c.deref-3.ensures.value ∙ ap (λ l. l ++ c.in_ok-answer.by_calls.items) (sym c.deref-4.ensures.value),
+        c.deref-4.ensures.value ∙ c.in_ok-measure.ensures.measured.1 ∙ ap (λ l. c.in_ok-measure.measure.spared.items ++ l) c.deref-2.ensures.value
+            ∙ ap (λ l. l ++ c.in_ok-answer.by_calls.items) (sym c.deref-3.ensures.value),
       );
-      objects = c.in_ok-objects.ensures.asked;
+      objects = c.in_ok-measure.ensures.measured.2;
     },
     c.in_ok-cuts.ensures.cut.0,
   );
@@ -38,19 +38,10 @@ pub returns-in_err-before-clause-swept : goal.returns-in_err-before-clause-swept
 returns-in_err-before-clause-swept g c = passed_on _ _ c.from_residual-in_err-before.result c.from_residual-in_err-before.ensures.1
     (λ fault e. subst (IsUncutFor c.args.words.now c.args.command c.args.share.step) (sym e) (c.in_err-before.ensures c.args.share.step))
 
-pub returns-in_err-spared-clause-swept : goal.returns-in_err-spared-clause-swept
-returns-in_err-spared-clause-swept g c = passed_on _ _ c.from_residual-in_err-spared.result c.from_residual-in_err-spared.ensures.1
+pub returns-in_err-measure-clause-swept : goal.returns-in_err-measure-clause-swept
+returns-in_err-measure-clause-swept g c = passed_on _ _ c.from_residual-in_err-measure.result c.from_residual-in_err-measure.ensures.1
     (λ fault e. probe_uncut c.args.words.now c.args.command c.args.share.step fault (done_carried c.args.words.now c.args.command c.in_ok-answer.answer.items c.in_ok-answer.after c.in_ok-answer.ensures)
-    (image_probed c.args.command.behind.instructions c.args.command.probe.now fault (subst IsImageFault (sym e) c.in_err-spared.ensures)))
-
-pub returns-in_err-lenient-clause-swept : goal.returns-in_err-lenient-clause-swept
-returns-in_err-lenient-clause-swept g c = passed_on _ _ c.from_residual-in_err-lenient.result c.from_residual-in_err-lenient.ensures.1
-    (λ fault e. memory_uncut c.args.words.now c.args.command c.args.share.step fault e)
-
-pub returns-in_err-objects-clause-swept : goal.returns-in_err-objects-clause-swept
-returns-in_err-objects-clause-swept g c = passed_on _ _ c.from_residual-in_err-objects.result c.from_residual-in_err-objects.ensures.1
-    (λ fault e. probe_uncut c.args.words.now c.args.command c.args.share.step fault (done_carried c.args.words.now c.args.command c.in_ok-answer.answer.items c.in_ok-answer.after c.in_ok-answer.ensures)
-    (image_probed c.args.command.behind.instructions c.args.command.probe.now fault (subst IsImageFault (sym e) c.in_err-objects.ensures.asked)))
+    (image_probed c.args.command.behind.instructions c.args.command.probe.now fault (subst IsImageFault (sym e) c.in_err-measure.ensures.measured)))
 
 pub returns-in_err-cuts-clause-swept : goal.returns-in_err-cuts-clause-swept
 returns-in_err-cuts-clause-swept g c = passed_on _ _ c.from_residual-in_err-cuts.result c.from_residual-in_err-cuts.ensures.1
