@@ -1,6 +1,6 @@
 -- AID (API specification).
 pub mod Cells
-use Rattle.std.specs.Prelude.{ℕ, ◌+◌, ◌==◌, ◌&&◌, nat_le, pos, Bool, false, List, length, take, drop, Option, Some, None, if◌then◌else◌, Result, Ok, Err}
+use Rattle.std.specs.Prelude.{ℕ, ℤ, ◌+◌, ◌==◌, ◌&&◌, nat_le, pos, Bool, false, List, length, take, drop, Option, Some, None, if◌then◌else◌, Result, Ok, Err}
 use Rattle.std.specs.Str.{bytes_eq}
 use Rattle.jc_heap.specs.declared.object.Facts.{Facts}
 use Rattle.jc_frames.specs.declared.cell.Cell.{Cell}
@@ -26,6 +26,7 @@ use Rattle.jc_world.specs.Numbers.{not_negative}
 use Rattle.jc_world.specs.Instances.{instance_at}
 use Rattle.jc_world.specs.declared.arrays.Stretch.{Stretch}
 use Rattle.jc_api.specs.Arguments.{argument_bytes, array_arguments}
+use Rattle.jc_api.specs.declared.arguments.ArrayArguments.{ArrayArguments}
 use Rattle.jc_api.specs.Forms.{CallAnswer, puts_at, reading_call, tells_whether}
 use Rattle.jc_api_framework.specs.Constructing.{constructing_call}
 use Rattle.jc_api_framework.specs.Aid.Cells.{is_aid_length, cells_of_aid}
@@ -121,12 +122,15 @@ abbrev pub part_or_throw : Option (List ℕ) → Result (List ℕ) FrameExit
 part_or_throw None = Err (Throw ArrayIndexOutOfBoundsException)
 part_or_throw (Some part) = Ok part
 
+-- what is answered with that part: it is copied, as one change, and the number of its bytes is returned
+abbrev pub part_answer : List ℕ → ℤ → ArrayArguments → Result CallAnswer FrameExit
+part_answer aid from given = and_then (part_or_throw (part_within aid (not_negative from) (not_negative given.count)))
+    (λ part. Ok (puts_at given.array given.start part (pos (length part))))
+
 -- AID.getPartialBytes: a part of the bytes is copied, as one change; their number is returned
 unfoldable pub aid_get_partial_bytes : List Cell → MemoryState → Result CallAnswer FrameExit
 aid_get_partial_bytes args m = and_then (some_or_fault (reference_argument args 0)) (λ own. and_then (some_or_fault (short_argument args 1)) (λ from.
-    and_then (array_arguments 2 args m) (λ given. and_then (some_or_fault (aid_at m own)) (λ aid.
-    and_then (part_or_throw (part_within aid (not_negative from) (not_negative given.count)))
-    (λ part. Ok (puts_at given.array given.start part (pos (length part))))))))
+    and_then (array_arguments 2 args m) (λ given. and_then (some_or_fault (aid_at m own)) (λ aid. part_answer aid from given))))
 
 -- what a call of a method of AID may do: what its answer says, which for its constructor are the words of the object's cells
 unfoldable pub aid_call : AidsMethod → List Cell → Packages → MemoryState → NativeProgram

@@ -3,21 +3,21 @@
 pub mod cells;
 pub mod law;
 
-ghost use Rattle.std.specs.Prelude.{◌≡◌, ◌≤◌, false, length, Ok};
+ghost use Rattle.std.specs.Prelude.{◌≡◌, ◌≤◌, false, length, pos, Ok};
 ghost use Rattle.std.specs.Option.{option_copied};
 ghost use Rattle.jc_world.specs.Numbers.{not_negative};
 ghost use Rattle.jc_memory.specs.Programs.{Executes};
 ghost use Rattle.jc_world.specs.NativeCalls.{after_call};
-ghost use Rattle.jc_world.specs.Arrays.{IsInArray, bytes_in};
-ghost use Rattle.jc_api.specs.Forms.{reading_call};
+ghost use Rattle.jc_world.specs.Answers.{returns_short};
+ghost use Rattle.jc_world.specs.Arrays.{IsBytesArgument, IsInArray, bytes_argument, bytes_in};
+ghost use Rattle.jc_api.specs.Forms.{put_then, puts_at, reading_call};
 ghost use Rattle.jc_api_framework.specs.Constructing.{constructing_call};
-ghost use Rattle.jc_api_framework.specs.Aid.Cells.{cells_of_aid};
-ghost use Rattle.jc_api_framework.specs.Aid.{agree, agrees_with_bytes, aid_call, aid_get_bytes, aid_get_partial_bytes, aid_init, aid_of_object};
-ghost use Rattle.jc_api_framework.specs.Aid.{begins_with, compared_with_bytes, compared_with_object, part_within, rid_of};
+ghost use Rattle.jc_api_framework.specs.Aid.{agree, agrees_with_bytes, cells_of_elements, aid_call, aid_get_bytes, aid_get_partial_bytes, aid_init, aid_of_object};
+ghost use Rattle.jc_api_framework.specs.Aid.{begins_with, compared_with_bytes, compared_with_object, part_answer, part_within, rid_of};
 
 use crate::aid::cells::{cells_of_aid, is_aid_length};
 use crate::constructing::{construct, new_instance};
-use jc_api::{argument_bytes, array_arguments, elements_at, given_elements};
+use jc_api::{ArrayArguments, argument_bytes, array_arguments, elements_at, given_elements};
 use jc_environment::{Aid, MOST_AID, aid_at};
 use jc_frames::reasons::ILLEGAL_VALUE;
 use jc_frames::{Cell, Exception, Outcome};
@@ -47,7 +47,7 @@ fn aid_of_object<S: WordStore>(object: Ref, memory: &Memory<S>, linked: &Linked)
     }
 }
 
-// Sets the cells of an AID object to those of as many bytes of an array as an AID has.
+// Sets the cells of an AID object to those of elements of an array, if an AID has as many bytes.
 fn set_aid<S: WordStore>(
     e: Stretch,
     args: &[Cell],
@@ -55,10 +55,12 @@ fn set_aid<S: WordStore>(
 ) -> Result<NativeResult, StepExit>
     requires up { memory.old.heap.down ≡ false }
     requires there { IsInArray memory.old e }
-    requires few { e.count ≤ MOST_AID }
-    ensures { Executes (constructing_call (Ok (cells_of_aid (bytes_in memory.old e))) args.now
-        memory.old) memory.old (after_call result memory.new) }
+    ensures { Executes (constructing_call (cells_of_elements memory.old e) args.now memory.old)
+        memory.old (after_call result memory.new) }
 {
+    if !is_aid_length(e.count) {
+        return Err(StepExit::Throw(ILLEGAL_VALUE));
+    }
     let count = e.count as usize;
     let mut bytes = [0; MOST_AID];
     memory.bytes(e.array, e.start, &mut bytes[..count]);
@@ -81,9 +83,6 @@ fn aid_init<S: WordStore>(
     let given = array_arguments(1, args, memory)?;
     let _facts = new_instance(own, 9, memory)?;
     let e = argument_bytes(&given, memory, linked)?;
-    if !is_aid_length(e.count) {
-        return Err(StepExit::Throw(ILLEGAL_VALUE));
-    }
     set_aid(e, args, memory)
 }
 
@@ -199,6 +198,40 @@ fn compare_with_bytes<S: WordStore>(
     Ok(boolean(agrees_with(extent, aid.bytes(), e, memory)))
 }
 
+// Puts bytes into as many elements, which were asked for, as one change; returns their number.
+fn put_asked<S: WordStore>(
+    e: Stretch,
+    bytes: &[u8],
+    memory: &mut Memory<S>,
+) -> Result<NativeResult, StepExit>
+    requires up { memory.old.heap.down ≡ false }
+    requires there { IsInArray memory.old e }
+    requires all { length bytes.now ≡ e.count }
+    requires few { length bytes.now ≤ MOST_AID }
+    ensures { Executes (put_then false bytes.now memory.old e (returns_short (pos
+        (length bytes.now)))) memory.old (after_call result memory.new) }
+{
+    put(memory, e, bytes)?;
+    Ok(short(bytes.len() as i16))
+}
+
+// Puts bytes into as many elements of an array, from one on.
+fn put_at<S: WordStore>(
+    array: Ref,
+    start: i16,
+    bytes: &[u8],
+    memory: &mut Memory<S>,
+    linked: &Linked,
+) -> Result<NativeResult, StepExit>
+    requires up { memory.old.heap.down ≡ false }
+    requires few { length bytes.now ≤ MOST_AID }
+    ensures { Executes (reading_call (Ok (puts_at array start bytes.now (pos (length bytes.now))))
+        linked.now memory.old) memory.old (after_call result memory.new) }
+{
+    let e = elements_at(array, start, bytes.len() as i16, memory, linked)?;
+    put_asked(e, bytes, memory)
+}
+
 // `AID.getBytes`: copies the bytes, as one change; returns their number.
 #[tactic(auto, unfolding(crate::specs::Aid::aid_get_bytes))]
 fn aid_get_bytes<S: WordStore>(
@@ -213,13 +246,10 @@ fn aid_get_bytes<S: WordStore>(
     let own = reference_argument(args, 0)?;
     let array = reference_argument(args, 1)?;
     let start = short_argument(args, 2)?;
-    let Some(aid) = aid_at(memory, own) else {
-        return Err(StepExit::End(Outcome::Fault));
-    };
-    let count = aid.bytes().len() as i16;
-    let e = elements_at(array, start, count, memory, linked)?;
-    put(memory, e, aid.bytes())?;
-    Ok(short(count))
+    match aid_at(memory, own) {
+        Some(aid) => put_at(array, start, aid.bytes(), memory, linked),
+        None => Err(StepExit::End(Outcome::Fault)),
+    }
 }
 
 // This many bytes of an AID from one on, all the rest where none are asked for.
@@ -238,6 +268,28 @@ fn part_within(aid: &[u8], start: i16, count: i16) -> Option<&[u8]>
     Some(&aid[start..start + count])
 }
 
+// Copies a part of an AID, as one change; returns how many bytes it has.
+fn copy_part<S: WordStore>(
+    aid: &[u8],
+    from: i16,
+    given: &ArrayArguments,
+    memory: &mut Memory<S>,
+    linked: &Linked,
+) -> Result<NativeResult, StepExit>
+    requires up { memory.old.heap.down ≡ false }
+    requires few { length aid.now ≤ MOST_AID }
+    requires there { IsBytesArgument memory.old given.now.array given.now.header }
+    requires header { bytes_argument memory.old given.now.array ≡ Ok given.now.header }
+    ensures { Executes (reading_call (part_answer aid.now from given.now) linked.now memory.old)
+        memory.old (after_call result memory.new) }
+{
+    let Some(part) = part_within(aid, from, given.count) else {
+        return Err(StepExit::Throw(Exception::ArrayIndexOutOfBoundsException));
+    };
+    let e = given_elements(given, part.len() as i16, memory, linked)?;
+    put_asked(e, part, memory)
+}
+
 // `AID.getPartialBytes`: copies a part of the bytes, as one change; returns their number.
 #[tactic(auto, unfolding(crate::specs::Aid::aid_get_partial_bytes))]
 fn aid_get_partial_bytes<S: WordStore>(
@@ -252,16 +304,10 @@ fn aid_get_partial_bytes<S: WordStore>(
     let own = reference_argument(args, 0)?;
     let from = short_argument(args, 1)?;
     let given = array_arguments(2, args, memory)?;
-    let Some(aid) = aid_at(memory, own) else {
-        return Err(StepExit::End(Outcome::Fault));
-    };
-    let Some(part) = part_within(aid.bytes(), from, given.count) else {
-        return Err(StepExit::Throw(Exception::ArrayIndexOutOfBoundsException));
-    };
-    let taken = part.len() as i16;
-    let e = given_elements(&given, taken, memory, linked)?;
-    put(memory, e, part)?;
-    Ok(short(taken))
+    match aid_at(memory, own) {
+        Some(aid) => copy_part(aid.bytes(), from, &given, memory, linked),
+        None => Err(StepExit::End(Outcome::Fault)),
+    }
 }
 
 /// A call of a method of `AID`.

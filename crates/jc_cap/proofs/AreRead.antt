@@ -81,18 +81,20 @@ asked tag flag (Some text) r e = ok_is (Some text) r e
 asked tag true None r e = absurd cc
 asked tag false None r e = ok_is None r e
 
-record Taken (l : LoadedComponents) (t : PackageBytes) : Type 0 where
-  header : l.header ≡ Some t.header
-  directory : l.directory ≡ Some t.directory
-  applets : l.applets ≡ t.applets
-  imports : l.imports ≡ Some t.imports
-  pool : l.pool ≡ Some t.pool
-  classes : l.classes ≡ Some t.classes
-  methods : l.methods ≡ Some t.methods
-  statics : l.statics ≡ Some t.statics
-  exports : l.exports ≡ t.exports
+pub record Taken (l : LoadedComponents) (t : PackageBytes) : Type 0 where
+  pub header : l.header ≡ Some t.header
+  pub directory : l.directory ≡ Some t.directory
+  pub applets : l.applets ≡ t.applets
+  pub imports : l.imports ≡ Some t.imports
+  pub pool : l.pool ≡ Some t.pool
+  pub classes : l.classes ≡ Some t.classes
+  pub methods : l.methods ≡ Some t.methods
+  pub statics : l.statics ≡ Some t.statics
+  pub exports : l.exports ≡ t.exports
+  pub reference_location : l.reference_location ≡ t.reference_location
+  pub descriptor : l.descriptor ≡ t.descriptor
 
-taken : (l : LoadedComponents) (t : PackageBytes) → required_components l ≡ Ok t → Taken l t
+pub taken : (l : LoadedComponents) (t : PackageBytes) → required_components l ≡ Ok t → Taken l t
 unfolding required_components
 taken l t e =
     let header = bind_ok (required_component 1 l.header) _ t e in
@@ -116,7 +118,44 @@ taken l t e =
       methods = there 7 l.methods methods.0 methods.1 ∙ ap (λ (x : PackageBytes). Some x.methods) is;
       statics = there 8 l.statics statics.0 statics.1 ∙ ap (λ (x : PackageBytes). Some x.statics) is;
       exports = asked 10 flags.0.0 l.exports exports.0 exports.1 ∙ ap (λ (x : PackageBytes). x.exports) is;
+      reference_location = ap (λ (x : PackageBytes). x.reference_location) is;
+      descriptor = ap (λ (x : PackageBytes). x.descriptor) is;
     }
+
+same_some : {A : Type 0} (o : Option A) (x y : A) → o ≡ Some x → o ≡ Some y → x ≡ y
+same_some o x y e f = cc
+
+abbrev parts : PackageBytes → PackageBytes
+parts t = record {
+  header = t.header;
+  directory = t.directory;
+  applets = t.applets;
+  imports = t.imports;
+  pool = t.pool;
+  classes = t.classes;
+  methods = t.methods;
+  statics = t.statics;
+  exports = t.exports;
+  reference_location = t.reference_location;
+  descriptor = t.descriptor;
+}
+
+-- the components that came are one package
+pub made : (l : LoadedComponents) (t r : PackageBytes) → Taken l t → Taken l r → t ≡ r
+made l t r k j =
+    let header = same_some l.header t.header r.header k.header j.header in
+    let directory = same_some l.directory t.directory r.directory k.directory j.directory in
+    let applets : t.applets ≡ r.applets = sym k.applets ∙ j.applets in
+    let imports = same_some l.imports t.imports r.imports k.imports j.imports in
+    let pool = same_some l.pool t.pool r.pool k.pool j.pool in
+    let classes = same_some l.classes t.classes r.classes k.classes j.classes in
+    let methods = same_some l.methods t.methods r.methods k.methods j.methods in
+    let statics = same_some l.statics t.statics r.statics k.statics j.statics in
+    let exports : t.exports ≡ r.exports = sym k.exports ∙ j.exports in
+    let reference_location : t.reference_location ≡ r.reference_location = sym k.reference_location ∙ j.reference_location in
+    let descriptor : t.descriptor ≡ r.descriptor = sym k.descriptor ∙ j.descriptor in
+    let same : parts t ≡ parts r = cc in
+    same
 
 -- the text that came is the one that is there
 came : (o : Option (List ℕ)) (t : List ℕ) (P : List ℕ → Type 0) → o ≡ Some t → P t → Came o P

@@ -1,6 +1,7 @@
 //! A package is put together of the components that came.
 ghost use Rattle.std.specs.Prelude.{◌≡◌, Ok, IfOk};
-ghost use Rattle.jc_cap.specs.Reading.{ParsesAs};
+ghost use Rattle.jc_cap.specs.Reading.{ParsesAs, IsReadable};
+ghost use Rattle.jc_cap.specs.KeptComponents.{IsReadAs};
 ghost use Rattle.jc_cap.specs.Assembling.{required_component, flagged_component, flags_in, required_components, checked_package, assembly_of, IsPackage};
 ghost use Rattle.jc_cap.specs.PackageReading.{contents_of};
 ghost use Rattle.jc_cap.specs.Views.{package_contents};
@@ -14,8 +15,8 @@ use crate::tags;
 use crate::texts::{LoadedComponents, PackageBytes};
 use std::marker::Model;
 
-fn required_component<T>(tag: u8, component: Option<T>) -> Result<T, CapFault>
-    ensures { ParsesAs (λ x. x) result (required_component tag component) }
+fn required_component<T>(tag: u8, component: &Option<T>) -> Result<&T, CapFault>
+    ensures { ParsesAs (λ x. x.now) result (required_component tag component.now) }
 {
     match component {
         Some(component) => Ok(component),
@@ -23,18 +24,13 @@ fn required_component<T>(tag: u8, component: Option<T>) -> Result<T, CapFault>
     }
 }
 
-fn flagged_component<T>(tag: u8, flag: bool, component: Option<T>) -> Result<Option<T>, CapFault>
-    ensures { ParsesAs (λ x. x) result (flagged_component tag flag component) }
+fn flagged_component<T>(tag: u8, flag: bool, component: &Option<T>) -> Result<(), CapFault>
+    ensures { ParsesAs (λ _. component.now) result (flagged_component tag flag component.now) }
 {
-    match component {
-        Some(component) => Ok(Some(component)),
-        None => {
-            if flag {
-                return Err(CapFault::Missing(tag));
-            }
-            Ok(None)
-        }
+    if flag && component.is_none() {
+        return Err(CapFault::Missing(tag));
     }
+    Ok(())
 }
 
 /// Which components the header asks for: Export, and Applet.
@@ -45,34 +41,41 @@ fn flags_in(header: &HeaderComponent) -> (bool, bool)
     (header.exports, header.has_applets)
 }
 
-/// All components that a package needs, of those that came: Missing with the lowest tag of one that did not come.
+/// Whether all components came that a package needs: Missing with the lowest tag of one that did not come.
 #[tactic(auto, unfolding(crate::specs::Assembling::required_components))]
-fn required_components(load: LoadedComponents) -> Result<PackageBytes, CapFault>
-    ensures { ParsesAs (λ x. x) result (required_components load) }
+fn check_required(load: &LoadedComponents) -> Result<(), CapFault>
+    ensures { IsReadAs result (required_components load.now) }
 {
-    let header = required_component(tags::HEADER, load.header)?;
-    let directory = required_component(tags::DIRECTORY, load.directory)?;
-    let (exports, has_applets) = flags_in(&header);
-    let applets = flagged_component(tags::APPLET, has_applets, load.applets)?;
-    let imports = required_component(tags::IMPORT, load.imports)?;
-    let pool = required_component(tags::CONSTANT_POOL, load.pool)?;
-    let classes = required_component(tags::CLASS, load.classes)?;
-    let methods = required_component(tags::METHOD, load.methods)?;
-    let statics = required_component(tags::STATIC_FIELD, load.statics)?;
-    let exports = flagged_component(tags::EXPORT, exports, load.exports)?;
-    Ok(PackageBytes {
-        header,
-        directory,
-        applets,
-        imports,
-        pool,
-        classes,
-        methods,
-        statics,
-        exports,
+    let header = required_component(tags::HEADER, &load.header)?;
+    required_component(tags::DIRECTORY, &load.directory)?;
+    let (exports, has_applets) = flags_in(header);
+    flagged_component(tags::APPLET, has_applets, &load.applets)?;
+    required_component(tags::IMPORT, &load.imports)?;
+    required_component(tags::CONSTANT_POOL, &load.pool)?;
+    required_component(tags::CLASS, &load.classes)?;
+    required_component(tags::METHOD, &load.methods)?;
+    required_component(tags::STATIC_FIELD, &load.statics)?;
+    flagged_component(tags::EXPORT, exports, &load.exports)
+}
+
+/// All components that a package needs, which came.
+fn required_components(load: LoadedComponents) -> PackageBytes
+    requires { IsReadable (required_components load) }
+    ensures { required_components load ≡ Ok result }
+{
+    PackageBytes {
+        header: load.header.unwrap(),
+        directory: load.directory.unwrap(),
+        applets: load.applets,
+        imports: load.imports.unwrap(),
+        pool: load.pool.unwrap(),
+        classes: load.classes.unwrap(),
+        methods: load.methods.unwrap(),
+        statics: load.statics.unwrap(),
+        exports: load.exports,
         reference_location: load.reference_location,
         descriptor: load.descriptor,
-    })
+    }
 }
 
 /// Whether the components of a package can be read in the header's format, and agree with each other.
@@ -112,7 +115,8 @@ impl Model for Package {
 fn assembled(load: LoadedComponents) -> Result<Package, CapFault>
     ensures { ParsesAs (λ x. x) result (assembly_of load) }
 {
-    let texts = required_components(load)?;
+    check_required(&load)?;
+    let texts = required_components(load);
     check(&texts)?;
     Ok(Package { texts })
 }

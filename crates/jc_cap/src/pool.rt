@@ -1,5 +1,5 @@
 //! The ConstantPool component.
-ghost use Rattle.std.specs.Prelude.{◌≡◌, ◌<◌, List, length, Some, Ok, IfOk, slice_get};
+ghost use Rattle.std.specs.Prelude.{◌≡◌, ◌<◌, ◌∷◌, ◌==◌, if◌then◌else◌, List, length, Some, Ok, IfOk, slice_get};
 ghost use Rattle.jc_cap.specs.Reading.{ParsesAs, rest_after, many_at, value_of_whole, IsReadable};
 ghost use Rattle.jc_cap.specs.declared.pool.Entry.{Entry};
 ghost use Rattle.jc_cap.specs.Pool.{virtual_token_at, static_ref_at, entry_at, pool_at, IsPool};
@@ -89,6 +89,50 @@ fn static_ref(bytes: &[u8]) -> Result<(StaticRef, &[u8]), CapFault>
     Ok((external, rest))
 }
 
+// A class, or a field of its instances.
+#[inline(always)]
+#[tactic(auto, unfolding(crate::specs::Pool::entry_at))]
+fn field_entry(tag: u8, bytes: &[u8]) -> Result<(Entry, &[u8]), CapFault>
+    ensures { ParsesAs (λ x. (x.0, x.1.now)) result (entry_at
+        ((if tag == 1 then 1 else 2) ∷ bytes.now)) }
+{
+    let (class, rest) = class_ref(bytes)?;
+    let (token, rest) = u1(rest)?;
+    if tag == 1 {
+        return Ok((Entry::Class(class), rest));
+    }
+    Ok((Entry::InstanceField { class, token }, rest))
+}
+
+// A method of a class or of its superclass.
+#[inline(always)]
+#[tactic(auto, unfolding(crate::specs::Pool::entry_at))]
+fn method_entry(tag: u8, bytes: &[u8]) -> Result<(Entry, &[u8]), CapFault>
+    ensures { ParsesAs (λ x. (x.0, x.1.now)) result (entry_at
+        ((if tag == 3 then 3 else 4) ∷ bytes.now)) }
+{
+    let (class, rest) = class_ref(bytes)?;
+    let (token, rest) = virtual_token(rest)?;
+    if tag == 3 {
+        return Ok((Entry::VirtualMethod { class, token }, rest));
+    }
+    Ok((Entry::SuperMethod { class, token }, rest))
+}
+
+// A static field or a static method.
+#[inline(always)]
+#[tactic(auto, unfolding(crate::specs::Pool::entry_at))]
+fn static_entry(tag: u8, bytes: &[u8]) -> Result<(Entry, &[u8]), CapFault>
+    ensures { ParsesAs (λ x. (x.0, x.1.now)) result (entry_at
+        ((if tag == 5 then 5 else 6) ∷ bytes.now)) }
+{
+    let (place, rest) = static_ref(bytes)?;
+    if tag == 5 {
+        return Ok((Entry::StaticField(place), rest));
+    }
+    Ok((Entry::StaticMethod(place), rest))
+}
+
 #[inline(always)]
 #[tactic(auto, unfolding(crate::specs::Pool::entry_at))]
 fn entry_of(bytes: &[u8]) -> Result<(Entry, &[u8]), CapFault>
@@ -96,34 +140,9 @@ fn entry_of(bytes: &[u8]) -> Result<(Entry, &[u8]), CapFault>
 {
     let (tag, rest) = u1(bytes)?;
     match tag {
-        1 => {
-            let (class, rest) = class_ref(rest)?;
-            let (_, rest) = u1(rest)?;
-            Ok((Entry::Class(class), rest))
-        }
-        2 => {
-            let (class, rest) = class_ref(rest)?;
-            let (token, rest) = u1(rest)?;
-            Ok((Entry::InstanceField { class, token }, rest))
-        }
-        3 => {
-            let (class, rest) = class_ref(rest)?;
-            let (token, rest) = virtual_token(rest)?;
-            Ok((Entry::VirtualMethod { class, token }, rest))
-        }
-        4 => {
-            let (class, rest) = class_ref(rest)?;
-            let (token, rest) = virtual_token(rest)?;
-            Ok((Entry::SuperMethod { class, token }, rest))
-        }
-        5 => {
-            let (place, rest) = static_ref(rest)?;
-            Ok((Entry::StaticField(place), rest))
-        }
-        6 => {
-            let (place, rest) = static_ref(rest)?;
-            Ok((Entry::StaticMethod(place), rest))
-        }
+        1 | 2 => field_entry(tag, rest),
+        3 | 4 => method_entry(tag, rest),
+        5 | 6 => static_entry(tag, rest),
         _ => Err(CapFault::BadOffset),
     }
 }

@@ -2,7 +2,7 @@
 ghost use Rattle.std.specs.Prelude.{◌≡◌, ◌+◌, ◌<◌, ◌^◌, length};
 ghost use Rattle.jc_frames.specs.Cell.{result_or_none, popped};
 ghost use Rattle.jc_frames.specs.Frames.{in_frame, unless_fault, with_stack};
-ghost use Rattle.jc_frames.specs.BranchOps.{branch_instruction, branch_target, condition_on, table_offset, pair_offset};
+ghost use Rattle.jc_frames.specs.BranchOps.{at_target, branch_instruction, branch_target, condition_on, table_offset, pair_offset};
 
 use crate::instr::{BranchOp, Condition};
 use crate::operands::s2_at;
@@ -30,14 +30,15 @@ pub fn branch_instruction<C>(
     match branch {
         BranchOp::If(condition, offset) => {
             if condition_on(condition, frames)? {
-                frames.set_place(branch_target(method, code, pc, offset)?);
+                jump(branch_target(method, code, pc, offset), frames)?;
             }
+            Ok(())
         }
-        BranchOp::Goto(offset) => frames.set_place(branch_target(method, code, pc, offset)?),
+        BranchOp::Goto(offset) => jump(branch_target(method, code, pc, offset), frames),
         BranchOp::Jsr(offset) => {
             let next = frames.place();
             frames.try_push(Cell::ReturnAddress(next))?;
-            frames.set_place(branch_target(method, code, pc, offset)?);
+            jump(branch_target(method, code, pc, offset), frames)
         }
         BranchOp::Ret(n) => {
             let target = frames.local_address(n)?;
@@ -45,6 +46,7 @@ pub fn branch_instruction<C>(
                 return Err(CodeFault);
             }
             frames.set_place(target);
+            Ok(())
         }
         BranchOp::Table {
             otherwise,
@@ -53,14 +55,23 @@ pub fn branch_instruction<C>(
         } => {
             let key = frames.pop_short()?;
             let offset = table_offset(code, otherwise, low, high, pc + 7, key)?;
-            frames.set_place(branch_target(method, code, pc, offset)?);
+            jump(branch_target(method, code, pc, offset), frames)
         }
         BranchOp::Lookup { otherwise, count } => {
             let key = frames.pop_short()?;
             let offset = pair_offset(code, otherwise, count, pc + 5, key)?;
-            frames.set_place(branch_target(method, code, pc, offset)?);
+            jump(branch_target(method, code, pc, offset), frames)
         }
     }
+}
+
+// Goes on at a place, if there is one.
+#[inline(always)]
+fn jump(target: Result<u16, CodeFault>, frames: &mut Frames) -> Result<(), CodeFault>
+    ensures { unless_fault result frames.new ≡ in_frame frames.old
+        (at_target (result_or_none target) frames.old.current) }
+{
+    frames.set_place(target?);
     Ok(())
 }
 

@@ -94,23 +94,35 @@ call_decision Allow f method n = Ok (call_of method n None)
 call_decision (Switch context) f method n = Ok (call_of method n (Some (owner_of f.owner)))
 call_decision (Deny rule) f method n = Err (Throw SecurityException)
 
+-- a method that was found runs, where the arguments have the kinds that it wants, as the firewall decides
+abbrev pub found_call : Decision → Method → ℕ → Packages → List Cell → MemoryState → Facts → Result MethodCall FrameExit
+found_call decision found n p stack m f = and_then (check_or_fault (fits found p m stack)) (λ w. call_decision decision f found n)
+
+-- the method that a virtual call selects on a receiver with this header
+abbrev pub virtual_on : ℕ → VirtualToken → Method → ℕ → Packages → List Cell → MemoryState → Facts → Result MethodCall FrameExit
+virtual_on class token method n p stack m f =
+    and_then (check_or_fault (is_of p f class)) (λ v. and_then (some_or_fault (method_below p (class_of p f) class token method))
+    (λ found. found_call (firewall_decision VirtualCall p m f) found n p stack m f))
+
 -- invokevirtual: the method selected by the receiver's class, by its token; the arguments are those of the
 -- method of the class that the entry names
 unfoldable pub invokevirtual : ℕ → VirtualToken → Method → Packages → List Cell → MemoryState → Result MethodCall FrameExit
 invokevirtual class token method p stack m =
     and_then (some_or_fault (arguments_of p method)) (λ n. and_then (check_or_fault (fits_at_null n method p stack m))
-    (λ u. and_then (receiver_of n stack m) (λ f. and_then (check_or_fault (is_of p f class))
-    (λ v. and_then (some_or_fault (method_below p (class_of p f) class token method)) (λ found.
-    and_then (check_or_fault (fits found p m stack)) (λ w. call_decision (firewall_decision VirtualCall p m f) f found n))))))
+    (λ u. and_then (receiver_of n stack m) (virtual_on class token method n p stack m)))
+
+-- the method that an entry names runs on a receiver with this header
+abbrev pub special_on : Option ℕ → Method → ℕ → Packages → List Cell → MemoryState → Facts → Result MethodCall FrameExit
+special_on class method n p stack m f =
+    and_then (check_or_fault (is_of_any p f class)) (λ v. and_then (check_or_fault (fits method p m stack)) (λ w.
+    and_then (firewall_check InstanceField p m f) (λ x. Ok (call_of method n None))))
 
 -- invokespecial: the method that the entry names, on an instance of its class where the entry names one; the
 -- caller's context stays
 unfoldable pub invokespecial : Option ℕ → Method → Packages → List Cell → MemoryState → Result MethodCall FrameExit
 invokespecial class method p stack m =
     and_then (some_or_fault (arguments_of p method)) (λ n. and_then (check_or_fault (fits_at_null n method p stack m))
-    (λ u. and_then (receiver_of n stack m) (λ f. and_then (check_or_fault (is_of_any p f class))
-    (λ v. and_then (check_or_fault (fits method p m stack)) (λ w.
-    and_then (firewall_check InstanceField p m f) (λ x. Ok (call_of method n None)))))))
+    (λ u. and_then (receiver_of n stack m) (special_on class method n p stack m)))
 
 -- a constructor of the platform
 abbrev pub is_native_constructor : Method → Bool
@@ -131,7 +143,7 @@ unfoldable pub invokeinterface : ℕ → ℕ → ℕ → Packages → List Cell 
 invokeinterface interface n token p stack m =
     and_then (receiver_of n stack m) (λ f. and_then (check_or_fault (is_of p f interface))
     (λ u. and_then (some_or_fault (interface_method_at p (class_of p f) interface token)) (λ found.
-    and_then (check_or_fault (fits found p m stack)) (λ v. call_decision (firewall_decision (interface_access p interface) p m f) f found n))))
+    found_call (firewall_decision (interface_access p interface) p m f) found n p stack m f)))
 
 -- ---- by what the entry of the constant pool resolves to; another one is a code fault
 

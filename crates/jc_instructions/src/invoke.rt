@@ -13,7 +13,7 @@ ghost use Rattle.jc_world.specs.Contexts.{firewall_decision};
 ghost use Rattle.jc_world.specs.Objects.{check_or_fault, some_or_fault};
 ghost use Rattle.jc_platform.specs.Signatures.{argument_cells};
 ghost use Rattle.jc_instructions.specs.Invoke.{arguments_of, invokeinterface, invokespecial, invokestatic, invokevirtual, call_of, method_selection};
-ghost use Rattle.jc_instructions.specs.Invoke.{static_selection, class_of, fits_at_null, header_of, interface_access, interface_by, is_native_constructor};
+ghost use Rattle.jc_instructions.specs.Invoke.{static_selection, class_of, fits_at_null, found_call, special_on, virtual_on, header_of, interface_access, interface_by, is_native_constructor};
 ghost use Rattle.jc_instructions.specs.Invoke.{is_null_on, is_of_any, call_decision, receiver_of, receiver_on, special_by, virtual_by, virtual_selection, with_header};
 
 use crate::method_component::method_component_of;
@@ -263,6 +263,62 @@ fn virtual_method(
     Some((found, header_by(found, method, header, linked)))
 }
 
+// A method that was found, where the arguments have the kinds that it wants, as the firewall decides.
+#[inline(always)]
+fn found_call<S: WordStore>(
+    decision: Decision,
+    found: SelectedCall,
+    facts: Facts,
+    frames: &Frames,
+    memory: &Memory<S>,
+    linked: &Linked,
+) -> Result<SelectedCall, FrameExit>
+    requires up { memory.now.heap.down ≡ false }
+    requires header { found.header ≡ header_of linked.now found.call.method }
+    ensures { result ≡ with_header linked.now (found_call decision found.call.method
+        found.call.arguments linked.now frames.now.current.stack memory.now facts) }
+{
+    let MethodCall {
+        method,
+        arguments,
+        ..
+    } = found.call;
+    check(fits(method, frames, memory, linked))?;
+    let call = call_decision(decision, facts, method, arguments)?;
+    Ok(SelectedCall {
+        call,
+        header: found.header,
+    })
+}
+
+// The method that a virtual call selects on a receiver with this header, where the entry names the method of this call.
+#[inline(always)]
+fn virtual_on<S: WordStore>(
+    class: ClassWord,
+    token: VirtualToken,
+    named: SelectedCall,
+    facts: Facts,
+    frames: &Frames,
+    memory: &Memory<S>,
+    linked: &Linked,
+) -> Result<SelectedCall, FrameExit>
+    requires up { memory.now.heap.down ≡ false }
+    requires header { named.header ≡ header_of linked.now named.call.method }
+    ensures { result ≡ with_header linked.now (virtual_on class token named.call.method
+        named.call.arguments linked.now frames.now.current.stack memory.now facts) }
+{
+    let own = class_of(facts, linked);
+    check(is_below(own, class, linked))?;
+    let method = named.call.method;
+    let (found, header) = virtual_method(own, class, token, method, named.header, linked).ok_or(
+        FrameExit::End(Outcome::Fault),
+    )?;
+    let call = MethodCall::of(found, named.call.arguments);
+    let decision = firewall_decision(Access::VirtualCall, facts, memory, linked);
+    let found = SelectedCall { call, header };
+    found_call(decision, found, facts, frames, memory, linked)
+}
+
 // `invokevirtual`: selects the method by the receiver's class.
 #[tactic(auto, unfolding(crate::specs::Invoke::invokevirtual))]
 fn invokevirtual<C, S: WordStore>(
@@ -280,15 +336,9 @@ fn invokevirtual<C, S: WordStore>(
     let (arguments, header) = arguments_of(method, linked).ok_or(FrameExit::End(Outcome::Fault))?;
     check(fits_at_null(arguments, method, frames, memory, linked))?;
     let facts = receiver_of(arguments, frames, memory)?;
-    let own = class_of(facts, linked);
-    check(is_below(own, class, linked))?;
-    let (found, header) = virtual_method(own, class, token, method, header, linked).ok_or(
-        FrameExit::End(Outcome::Fault),
-    )?;
-    check(fits(found, frames, memory, linked))?;
-    let decision = firewall_decision(Access::VirtualCall, facts, memory, linked);
-    let call = call_decision(decision, facts, found, arguments)?;
-    Ok(SelectedCall { call, header })
+    let call = MethodCall::of(method, arguments);
+    let named = SelectedCall { call, header };
+    virtual_on(class, token, named, facts, frames, memory, linked)
 }
 
 // The receiver is of the class, where one is asked for.
@@ -299,6 +349,28 @@ fn is_of_any(facts: Facts, class: Option<ClassWord>, linked: &Linked) -> bool
         None => true,
         Some(class) => linked.is_below(class_of(facts, linked), class),
     }
+}
+
+// The method that an entry names, on a receiver with this header.
+#[inline(always)]
+fn special_on<S: WordStore>(
+    class: Option<ClassWord>,
+    named: SelectedCall,
+    facts: Facts,
+    frames: &Frames,
+    memory: &Memory<S>,
+    linked: &Linked,
+) -> Result<SelectedCall, FrameExit>
+    requires up { memory.now.heap.down ≡ false }
+    requires header { named.header ≡ header_of linked.now named.call.method }
+    requires own { named.call.switches_to ≡ None }
+    ensures { result ≡ with_header linked.now (special_on class named.call.method
+        named.call.arguments linked.now frames.now.current.stack memory.now facts) }
+{
+    check(is_of_any(facts, class, linked))?;
+    check(fits(named.call.method, frames, memory, linked))?;
+    allow(Access::InstanceField, facts, memory, linked)?;
+    Ok(named)
 }
 
 // `invokespecial`: selects the method that the entry names: a constructor, a private method, or one of a
@@ -318,11 +390,9 @@ fn invokespecial<S: WordStore>(
     let (arguments, header) = arguments_of(method, linked).ok_or(FrameExit::End(Outcome::Fault))?;
     check(fits_at_null(arguments, method, frames, memory, linked))?;
     let facts = receiver_of(arguments, frames, memory)?;
-    check(is_of_any(facts, class, linked))?;
-    check(fits(method, frames, memory, linked))?;
-    allow(Access::InstanceField, facts, memory, linked)?;
     let call = MethodCall::of(method, arguments);
-    Ok(SelectedCall { call, header })
+    let named = SelectedCall { call, header };
+    special_on(class, named, facts, frames, memory, linked)
 }
 
 #[inline(always)]
@@ -380,7 +450,7 @@ fn interface_decision<S: WordStore>(
 // The method of a class that implements an interface's. A class that has one is below the interface.
 #[tactic(auto, using(crate::proofs::Implementing::not_implemented))]
 #[inline(always)]
-pub(crate) fn implementation(
+fn implementation(
     own: ClassWord,
     interface: ClassWord,
     token: u8,
@@ -410,11 +480,11 @@ fn invokeinterface<S: WordStore>(
 {
     let facts = receiver_of(arguments, frames, memory)?;
     let found = implementation(class_of(facts, linked), interface, token, linked)?;
-    check(fits(found, frames, memory, linked))?;
     let decision = interface_decision(interface, facts, memory, linked);
-    let call = call_decision(decision, facts, found, arguments)?;
+    let call = MethodCall::of(found, arguments);
     let header = header_of(found, linked);
-    Ok(SelectedCall { call, header })
+    let found = SelectedCall { call, header };
+    found_call(decision, found, facts, frames, memory, linked)
 }
 
 // Which method a static call runs, and what its header says.

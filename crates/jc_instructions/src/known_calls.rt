@@ -12,12 +12,12 @@ ghost use Rattle.jc_firewall.specs.declared.subject.Context.TheVariants.{Jcre};
 ghost use Rattle.jc_world.specs.Contexts.{firewall_decision};
 ghost use Rattle.jc_frames.specs.Calls.{arguments_on};
 ghost use Rattle.jc_platform.specs.Signatures.{argument_cells};
-ghost use Rattle.jc_instructions.specs.Invoke.{ChoosesOfPlatform, IsFoundAt, IsFoundCode, IsSwitchedTo, arguments_of, call_of_code, invokeinterface, invokevirtual};
-ghost use Rattle.jc_instructions.specs.Invoke.{class_of, header_of, interface_access};
+ghost use Rattle.jc_instructions.specs.Invoke.{ChoosesOfPlatform, IsFoundAt, IsFoundCode, IsSwitchedTo, arguments_of, call_of, call_of_code, invokeinterface, invokevirtual};
+ghost use Rattle.jc_instructions.specs.Invoke.{class_of, header_of, interface_access, is_null_on};
 ghost use Rattle.jc_instructions.specs.Invoke.{receiver_of, receiver_on, virtual_by};
 
 use crate::enter::Callee;
-use crate::invoke::{class_of, implementation, interface_access, receiver_on};
+use crate::invoke::{class_of, interface_access, receiver_on};
 use crate::method_component::method_component_of;
 use crate::parameters::{fits, native_fits};
 use jc_cap::pool::VirtualToken;
@@ -238,23 +238,35 @@ pub struct CodeMethod {
     pub header: Header,
 }
 
-// The method in bytecode that a virtual call finds on an instance of a class below the one that its entry names with this method, if it is
-// one whose header is not cut.
-#[tactic(auto, unfolding(crate::specs::Invoke::header_of))]
-#[inline(never)]
-fn overriding(
-    own: ClassWord,
-    class: ClassWord,
-    token: VirtualToken,
-    method: Method,
-    linked: &Linked,
-) -> Option<CodeMethod>
-    ensures { IfSome result (IsFoundCode linked.now own class token method) }
-{
-    if !linked.is_below(own, class) {
-        return None;
+impl CodeCall {
+    // A call of a method with this many arguments, which runs for this owner, or for the caller's.
+    #[inline(always)]
+    const fn of(method: CodeMethod, arguments: u8, switches_to: Option<Owner>) -> CodeCall
+        ensures call { call_of_code result.callee
+            ≡ call_of (Code method.package_number method.offset) arguments switches_to }
+        ensures header { result.header ≡ method.header }
+    {
+        CodeCall {
+            callee: Callee {
+                package_number: method.package_number,
+                offset: method.offset,
+                arguments,
+                switches_to,
+            },
+            header: method.header,
+        }
     }
-    match linked.method_below(own, class, token, method) {
+}
+
+// The method that was found, if it is one in bytecode whose header is not cut.
+#[tactic(auto, unfolding(crate::specs::Invoke::header_of))]
+#[inline(always)]
+fn code_method(found: Option<Method>, linked: &Linked) -> Option<CodeMethod>
+    ensures method { IfSome result (λ m. found ≡ Some (Code m.package_number m.offset)) }
+    ensures header { IfSome result (λ m. header_of linked.now (Code m.package_number m.offset)
+        ≡ Some m.header) }
+{
+    match found {
         Some(
             Method::Code {
                 package_number,
@@ -270,6 +282,24 @@ fn overriding(
         }
         _ => None,
     }
+}
+
+// The method in bytecode that a virtual call finds on an instance of a class below the one that its entry names with this method, if it is
+// one whose header is not cut.
+#[inline(never)]
+fn overriding(
+    own: ClassWord,
+    class: ClassWord,
+    token: VirtualToken,
+    method: Method,
+    linked: &Linked,
+) -> Option<CodeMethod>
+    ensures { IfSome result (IsFoundCode linked.now own class token method) }
+{
+    if !linked.is_below(own, class) {
+        return None;
+    }
+    code_method(linked.method_below(own, class, token, method), linked)
 }
 
 // The same where the class may be the one that the entry names, whose method is this one.
@@ -319,6 +349,74 @@ fn switched_owner<S: WordStore>(
     }
 }
 
+// The same of a virtual call on an object with this header, where the caller may be its owner.
+#[inline(always)]
+fn virtual_owner<S: WordStore>(
+    header: Facts,
+    receiver: Ref,
+    memory: &Memory<S>,
+    linked: &Linked,
+) -> Option<Option<Owner>>
+    requires up { memory.now.heap.down ≡ false }
+    requires there { IsObject memory.now.heap.now receiver }
+    requires header { header ≡ facts memory.now.heap.now receiver }
+    ensures { IfSome result (IsSwitchedTo VirtualCall linked.now memory.now header) }
+{
+    if is_own(header, memory) {
+        return Some(None);
+    }
+    switched_owner(Access::VirtualCall, receiver, memory, linked)
+}
+
+// The same of a call of an interface's method.
+#[inline(always)]
+fn interface_owner<S: WordStore>(
+    interface: ClassWord,
+    header: Facts,
+    receiver: Ref,
+    memory: &Memory<S>,
+    linked: &Linked,
+) -> Option<Option<Owner>>
+    requires up { memory.now.heap.down ≡ false }
+    requires there { IsObject memory.now.heap.now receiver }
+    requires header { header ≡ facts memory.now.heap.now receiver }
+    ensures { IfSome result (IsSwitchedTo (interface_access linked.now interface) linked.now
+        memory.now header) }
+{
+    if is_own(header, memory) {
+        return Some(None);
+    }
+    switched_owner(
+        interface_access(interface, linked),
+        receiver,
+        memory,
+        linked,
+    )
+}
+
+// The receiver of a call with this many arguments, and its header, where it is an object.
+#[tactic(auto, unfolding(crate::specs::Invoke::receiver_of))]
+#[inline(always)]
+fn known_receiver<S: WordStore>(
+    arguments: u8,
+    frames: &Frames,
+    memory: &Memory<S>,
+) -> Option<(Ref, Facts)>
+    requires up { memory.now.heap.down ≡ false }
+    ensures present { IfSome result (λ r. is_null_on arguments frames.now.current.stack ≡ false) }
+    ensures header { IfSome result (λ r. receiver_of arguments frames.now.current.stack memory.now
+        ≡ Ok r.1) }
+    ensures there { IfSome result (λ r. IsObject memory.now.heap.now r.0
+        × (r.1 ≡ facts memory.now.heap.now r.0)) }
+{
+    let receiver = receiver_on(arguments, frames)?;
+    if receiver.is_null() {
+        return None;
+    }
+    let facts = object(receiver, memory).ok()?;
+    Some((receiver, facts))
+}
+
 /// The method in bytecode that a virtual call runs whose entry names this one in bytecode, with how many arguments, and for whom, where that is
 /// known at once: no receiver is null, no rule refuses the call, and no header is cut. Else nothing.
 #[tactic(auto, unfolding(crate::specs::Invoke::invokevirtual, crate::specs::Invoke::arguments_of, crate::specs::Invoke::receiver_of, crate::specs::Invoke::header_of, crate::specs::Parameters::fits))]
@@ -340,35 +438,19 @@ pub fn select_code<S: WordStore>(
 {
     let header = header_at(method_component_of(package_number, linked), offset)?;
     let arguments = header.arguments;
-    let receiver = receiver_on(arguments, frames)?;
-    if receiver.is_null() {
-        return None;
-    }
-    let facts = object(receiver, memory).ok()?;
+    let (receiver, facts) = known_receiver(arguments, frames, memory)?;
     let named = CodeMethod {
         package_number,
         offset,
         header,
     };
     let found = overriding_or_own(class_of(facts, linked), class, token, named, linked)?;
-    let switches_to = if is_own(facts, memory) {
-        None
-    } else {
-        switched_owner(Access::VirtualCall, receiver, memory, linked)?
-    };
-    Some(CodeCall {
-        callee: Callee {
-            package_number: found.package_number,
-            offset: found.offset,
-            arguments,
-            switches_to,
-        },
-        header: found.header,
-    })
+    let switches_to = virtual_owner(facts, receiver, memory, linked)?;
+    Some(CodeCall::of(found, arguments, switches_to))
 }
 
 /// The same of a call of an interface's method by token.
-#[tactic(auto, unfolding(crate::specs::Invoke::invokeinterface, crate::specs::Invoke::receiver_of, crate::specs::Invoke::header_of, crate::specs::Parameters::fits))]
+#[tactic(auto, using(crate::proofs::Implementing::not_implemented), unfolding(crate::specs::Invoke::invokeinterface, crate::specs::Invoke::receiver_of, crate::specs::Parameters::fits))]
 #[inline(always)]
 pub fn select_interface_code<S: WordStore>(
     interface: ClassWord,
@@ -384,37 +466,9 @@ pub fn select_interface_code<S: WordStore>(
     ensures header { IfSome result (λ r. header_of linked.now
         (Code r.callee.package_number r.callee.offset) ≡ Some r.header) }
 {
-    let receiver = receiver_on(arguments, frames)?;
-    if receiver.is_null() {
-        return None;
-    }
-    let facts = object(receiver, memory).ok()?;
-    let found = implementation(class_of(facts, linked), interface, token, linked).ok()?;
-    let Method::Code {
-        package_number,
-        offset,
-    } = found
-    else {
-        return None;
-    };
-    let header = header_at(method_component_of(package_number, linked), offset)?;
-    let switches_to = if is_own(facts, memory) {
-        None
-    } else {
-        switched_owner(
-            interface_access(interface, linked),
-            receiver,
-            memory,
-            linked,
-        )?
-    };
-    Some(CodeCall {
-        callee: Callee {
-            package_number,
-            offset,
-            arguments,
-            switches_to,
-        },
-        header,
-    })
+    let (receiver, facts) = known_receiver(arguments, frames, memory)?;
+    let found = linked.interface_method_at(class_of(facts, linked), interface, token);
+    let found = code_method(found, linked)?;
+    let switches_to = interface_owner(interface, facts, receiver, memory, linked)?;
+    Some(CodeCall::of(found, arguments, switches_to))
 }

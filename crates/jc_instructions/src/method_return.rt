@@ -1,15 +1,35 @@
 //! Returns: `areturn`, `sreturn`, `return`.
 ghost use Rattle.std.specs.Prelude.{◌≡◌};
+ghost use Rattle.jc_frames.specs.Calls.{frames_after_return};
 ghost use Rattle.jc_memory.specs.Programs.{Executes};
 ghost use Rattle.jc_world.specs.Instructions.{after_instruction};
-ghost use Rattle.jc_instructions.specs.MethodReturn.{method_return};
+ghost use Rattle.jc_instructions.specs.MethodReturn.{method_return, return_to_caller};
 
 use jc_frames::instr::ReturnOp;
 use jc_frames::return_ops::pop_result;
-use jc_frames::{Frames, Outcome};
+use jc_frames::{Cell, Frames, Outcome};
 use jc_memory::Memory;
 use jc_words::WordStore;
 use jc_world::StepExit;
+
+// The caller goes on with a value, or the run ends with it.
+#[inline(always)]
+fn hand_over<S: WordStore>(
+    value: Option<Cell>,
+    frames: &mut Frames,
+    memory: &mut Memory<S>,
+) -> Result<(), StepExit>
+    ensures { Executes (return_to_caller value (frames_after_return frames.old.callers) memory.old)
+        memory.old (after_instruction result frames.new memory.new) }
+{
+    let Some(resume) = frames.leave() else {
+        return Err(StepExit::End(Outcome::of_value(value)));
+    };
+    let call = resume.call;
+    memory.set_owners(resume.active, resume.previous);
+    frames.receive(call, value)?;
+    Ok(())
+}
 
 /// `areturn`, `sreturn`, `return`: ends the method with the value on top, if the instruction has one: its
 /// caller goes on with it, for whom it ran before, or the run ends with it where nothing called the method.
@@ -24,11 +44,5 @@ pub fn return_to_caller<S: WordStore>(
         (after_instruction result frames.new memory.new) }
 {
     let value = pop_result(how, frames)?;
-    let Some(resume) = frames.leave() else {
-        return Err(StepExit::End(Outcome::of_value(value)));
-    };
-    let call = resume.call;
-    memory.set_owners(resume.active, resume.previous);
-    frames.receive(call, value)?;
-    Ok(())
+    hand_over(value, frames, memory)
 }

@@ -28,7 +28,7 @@ words-with_cell : (t : Item) (i v : ℕ) → words_of (with_cell t i v) ≡ word
 words-with_cell (AnObject o) i v = refl
 words-with_cell (APackage ws) i v = refl
 
-record-set_cell : (h : HeapState) (r i v q : ℕ) → record_of (set_cell h r i v) q ≡ record_of h q
+pub record-set_cell : (h : HeapState) (r i v q : ℕ) → record_of (set_cell h r i v) q ≡ record_of h q
 record-set_cell h r i v q = elim (cases_eq r q) [
   | inl is ↦ elim (cases_Bool (is_allocated h r)) [
     | inl e ↦ subst (λ n. record_of (set_cell h r i v) n ≡ record_of h n) is (ap words_of (heap_item_at-set_cell h r i v e)
@@ -38,11 +38,11 @@ record-set_cell h r i v q = elim (cases_eq r q) [
   | inr n ↦ ap words_of (heap_item_at-set_other h r i v q n)
 ]
 
-record-registry : (h : HeapState) (i v q : ℕ) → record_of (set_place h (Registry i) v) q ≡ record_of h q
+pub record-registry : (h : HeapState) (i v q : ℕ) → record_of (set_place h (Registry i) v) q ≡ record_of h q
 unfolding heap_item_at
 record-registry h i v q = refl
 
-record-count : (h : HeapState) (v q : ℕ) → record_of (set_place h AppletCount v) q ≡ record_of h q
+pub record-count : (h : HeapState) (v q : ℕ) → record_of (set_place h AppletCount v) q ≡ record_of h q
 unfolding heap_item_at
 record-count h v q = refl
 

@@ -4,12 +4,12 @@ use Rattle.std.specs.Prelude.{not}
 use Rattle.std.proofs.lemmas.List.{get_or-set_same, get_or-set_other}
 use Rattle.std.proofs.lemmas.Bool.{and_parts, cases_Bool, cases_eq, or_left, or_right, not_from_false, leb-true, le-leb}
 use Rattle.jc_platform.specs.declared.names.PlatformClass.TheVariants.{Aid, OwnerPin}
-use Rattle.jc_heap.specs.Object.{AnObject, APackage, Item, cells_of, is_object, with_cell}
-use Rattle.jc_heap.specs.Component.{record_of, words_of}
-use Rattle.jc_heap.specs.Heap.{HeapState, IsObject, cells, facts, heap_item_at, is_allocated, set_cell}
-use Rattle.jc_heap.proofs.Laws.{header_only-set_cell, cells-set_other, cells-with_cell, facts-set_cell, heap_item_at-set_cell, heap_item_at-set_other}
-use Rattle.jc_heap.proofs.Laws.{length-cells-set_cell, object_named, set_cell-absent}
+use Rattle.jc_heap.specs.Object.{cells_of, is_object}
+use Rattle.jc_heap.specs.Heap.{HeapState, IsObject, cells, facts, heap_item_at, set_cell}
+use Rattle.jc_heap.proofs.Laws.{header_only-set_cell, cells-set_other, cells-with_cell, facts-set_cell, heap_item_at-set_cell}
+use Rattle.jc_heap.proofs.Laws.{length-cells-set_cell, object_named}
 use Rattle.jc_heap.proofs.Keeping.{object-header_only}
+use Rattle.jc_memory.proofs.KeptImages.{record-set_cell}
 use Rattle.jc_linker.specs.Classes.{reference_cell, is_a}
 use Rattle.jc_linker.specs.Values.{Packages}
 use Rattle.jc_packages.specs.Objects.{HoldsReferences, fits_aid, fits_pin, is_persistent_instance, is_reference, is_object_address}
@@ -25,10 +25,6 @@ pub record CellFits (x : ℕ) (p : Packages) (h : HeapState) (r i v : ℕ) : Typ
   pub first : is_persistent_instance (facts h r) ≡ true → is_a p (facts h r).class Aid ≡ true → i ≡ 0 → v ≤ 16
   pub pin : is_persistent_instance (facts h r) ≡ true → is_a p (facts h r).class OwnerPin ≡ true → (r ≡ x → ⊥) → 5 ≤ i
   pub apart : (a : ℕ) → a < h.counts.1 → entry_word h a 0 ≡ r → 9 ≤ i
-
-words-with_cell : (t : Item) (i v : ℕ) → words_of (with_cell t i v) ≡ words_of t
-words-with_cell (AnObject o) i v = refl
-words-with_cell (APackage ws) i v = refl
 
 packages-set_cell : (h : HeapState) (r i v : ℕ) → (set_cell h r i v).packages ≡ h.packages
 unfolding set_cell
@@ -46,16 +42,6 @@ module _ (h : HeapState) (r i v : ℕ) where
     same = λ q o. facts-set_cell h r i v q;
     packages = packages-set_cell h r i v;
   }
-
-  pub record-set_cell : (q : ℕ) → record_of (set_cell h r i v) q ≡ record_of h q
-  record-set_cell q = elim (cases_eq r q) [
-    | inl is ↦ elim (cases_Bool (is_allocated h r)) [
-      | inl e ↦ subst (λ n. record_of (set_cell h r i v) n ≡ record_of h n) is (ap words_of (heap_item_at-set_cell h r i v e)
-          ∙ words-with_cell (heap_item_at h r) i v)
-      | inr e ↦ ap (λ g. record_of g q) (set_cell-absent h r i v e)
-    ]
-    | inr n ↦ ap words_of (heap_item_at-set_other h r i v q n)
-  ]
 
   pub cells_set : IsObject h r → cells (set_cell h r i v) r ≡ set (cells h r) i v
   cells_set there = ap cells_of (heap_item_at-set_cell h r i v (object_named h r there)) ∙ cells-with_cell (heap_item_at h r) i v
@@ -134,4 +120,4 @@ module _ (h : HeapState) (r i v : ℕ) where
 
     pub cell_kept : IsSoundBut x most p h own → IsSoundBut x most p (set_cell h r i v) own
     cell_kept s = sound_kept p h g cell_carries (applets-set_cell h r i v) (cell_aids s) x most own (cell_objects s)
-        (records_kept p h g cell_carries s.statics (λ k lt. record-set_cell (get_or h.packages k 0))) s
+        (records_kept p h g cell_carries s.statics (λ k lt. record-set_cell h r i v (get_or h.packages k 0))) s

@@ -9,10 +9,11 @@ use Rattle.jc_heap.specs.Place.{cell_changes, set_place, set_places}
 use Rattle.jc_heap.specs.Statics.{IsStatic, set_word, statics_of}
 use Rattle.jc_heap.proofs.Laws.{facts-set_cell, same_facts}
 use Rattle.jc_heap.proofs.RecordWords.{header_only-set_word}
+use Rattle.jc_memory.proofs.KeptImages.{record-set_cell}
 use Rattle.jc_linker.specs.Values.{Packages}
 use Rattle.jc_packages.specs.Objects.{is_bytes, is_instance, is_persistent_instance}
 use Rattle.law_soundness.specs.MemoryLaws.Fit.{AreCellsOf, FitPlaces, FitsPlace, FitsStatic}
-use Rattle.law_soundness.proofs.Cells.{cell_carries, record-set_cell}
+use Rattle.law_soundness.proofs.Cells.{cell_carries}
 use Rattle.law_soundness.proofs.HeapChanges.{Carries, IsSoundBut, reference_kept}
 use Rattle.law_soundness.proofs.Statics.{static_kept, static_stays, word_carries}
 use Rattle.law_soundness.proofs.Transients.{names_object}

@@ -1,13 +1,14 @@
 -- Effects that fit leave the packages that are read.
-use Rattle.std.proofs.Common.{◌≡◌, ℕ, suc, ◌++◌, false, List, [], ◌∷◌, inl, inr, sym, ◌∙◌, subst, arith, Some}
+use Rattle.std.proofs.Common.{◌≡◌, ℕ, false, List, [], ◌∷◌, inl, inr, sym, ◌∙◌, subst, arith, Some}
 use Rattle.jc_transient.specs.State.{RamState}
 use Rattle.jc_heap.specs.declared.place.Place.{Place}
 use Rattle.jc_heap.specs.declared.place.Place.TheVariants.{Cell, Static, Registry, AppletCount}
 use Rattle.jc_heap.specs.Heap.{HeapState, add_object, add_transient, heap_after_change, goes_back, is_allocated, set_cell, set_cells}
 use Rattle.jc_heap.specs.Moves.{Move, Write, SetPlaces, WriteNonAtomic, SetCells, AddObject, AddTransient, AddPackage, Begin, Commit, Abort}
-use Rattle.jc_heap.specs.Place.{place_at, set_place, set_places, cell_changes}
+use Rattle.jc_heap.specs.Place.{place_at, set_place, set_places}
 use Rattle.jc_memory.specs.State.{MemoryState, Effect, HeapMove, SetTransient, SetFlag, ClearTransient, SetRegisters, BeginCommand, SendBytes}
 use Rattle.jc_memory.specs.State.{apply_effect}
+use Rattle.jc_memory.proofs.KeptImages.{AreAllThere, IsThere, cells_there}
 use Rattle.jc_linker.specs.Values.{Packages}
 use Rattle.jc_platform.specs.Tokens.{Tokens}
 use Rattle.jc_packages.specs.Reading.{packages_of}
@@ -15,29 +16,25 @@ use Rattle.law_soundness.specs.MemoryLaws.State.{IsSoundMemory}
 use Rattle.law_soundness.specs.MemoryLaws.Fit.{FitPlaces, FitsChange, FitsMove, FitsPlace, IsFit, OfPin, OfPlaces, OfRegistry, OfValue}
 use Rattle.law_soundness.proofs.Memories.{choose}
 use Rattle.law_soundness.specs.StableReading.{IsReadAs, KeepsReading}
-use Rattle.law_soundness.proofs.ReadingHeaps.{ArePlaced, IsPlaced, TellSame, object_tells, place_tells, places_tell, read_same, run_tells, transient_tells}
+use Rattle.law_soundness.proofs.ReadingHeaps.{TellSame, object_tells, place_tells, places_tell, read_same, run_tells, transient_tells}
 
--- ---- what fits is placed
+-- ---- what fits is there
 
-place_placed : (p : Packages) (h : HeapState) (place : Place) (v : ℕ) → FitsPlace p h place v → IsPlaced h place
-place_placed p h (Cell r i) v fits = tt
-place_placed p h (Static r j) v fits = fits.there
-place_placed p h (Registry i) v fits = absurd fits
-place_placed p h AppletCount v fits = absurd fits
+place_there : (p : Packages) (h : HeapState) (place : Place) (v : ℕ) → FitsPlace p h place v → IsThere h place
+place_there p h (Cell r i) v fits = tt
+place_there p h (Static r j) v fits = fits.there
+place_there p h (Registry i) v fits = absurd fits
+place_there p h AppletCount v fits = absurd fits
 
-places_placed : (p : Packages) (h : HeapState) (cs : List (Place × ℕ)) → FitPlaces p h cs → ArePlaced h cs
-places_placed p h [] fits = tt
-places_placed p h (c ∷ cs) fits = (place_placed p h c.0 c.1 fits.0, places_placed p h cs fits.1)
+places_there : (p : Packages) (h : HeapState) (cs : List (Place × ℕ)) → FitPlaces p h cs → AreAllThere h cs
+places_there p h [] fits = tt
+places_there p h (c ∷ cs) fits = (place_there p h c.0 c.1 fits.0, places_there p h cs fits.1)
 
-bytes_placed : (h : HeapState) (bytes : List ℕ) (array i : ℕ) (cs : List (Place × ℕ)) → ArePlaced h cs → ArePlaced h (cell_changes array i bytes ++ cs)
-bytes_placed h [] array i cs placed = placed
-bytes_placed h (b ∷ bytes) array i cs placed = (tt, bytes_placed h bytes array (suc i) cs placed)
-
-change_placed : (p : Packages) (m : MemoryState) (cs : List (Place × ℕ)) → FitsChange p m cs → ArePlaced m.heap.now cs
-change_placed p m cs (OfPlaces fits) = places_placed p m.heap.now cs fits
-change_placed p m cs (OfPin f) = subst (ArePlaced m.heap.now) (sym f.is) (tt, (tt, (tt, (tt, (tt, tt)))))
-change_placed p m cs (OfValue f) = subst (ArePlaced m.heap.now) (sym f.is) (bytes_placed m.heap.now f.bytes _ 0 _ (tt, (tt, tt)))
-change_placed p m cs (OfRegistry f) = subst (ArePlaced m.heap.now) (sym f.is) (tt, (tt, (tt, (tt, tt))))
+change_there : (p : Packages) (m : MemoryState) (cs : List (Place × ℕ)) → FitsChange p m cs → AreAllThere m.heap.now cs
+change_there p m cs (OfPlaces fits) = places_there p m.heap.now cs fits
+change_there p m cs (OfPin f) = subst (AreAllThere m.heap.now) (sym f.is) (tt, (tt, (tt, (tt, (tt, tt)))))
+change_there p m cs (OfValue f) = subst (AreAllThere m.heap.now) (sym f.is) (cells_there m.heap.now _ 0 f.bytes _ (tt, (tt, tt)))
+change_there p m cs (OfRegistry f) = subst (AreAllThere m.heap.now) (sym f.is) (tt, (tt, (tt, (tt, tt))))
 
 -- ---- moves
 
@@ -60,8 +57,8 @@ module _ (t : Tokens) (p : Packages) (m : MemoryState) (s : IsSoundMemory p m) (
   free = s.whole.now.end m.heap.now.top (omega arith)
 
   move_read : (move : Move) → FitsMove p move m → IsReadAs t p (apply_effect (HeapMove move) m)
-  move_read (Write place v) fits = changed_read (set_place m.heap.now place v) _ 0 m.ram (place_tells m.heap.now place v (place_placed p m.heap.now place v fits))
-  move_read (SetPlaces changes) fits = changed_read (set_places m.heap.now changes) _ 0 m.ram (places_tell m.heap.now changes (change_placed p m changes fits))
+  move_read (Write place v) fits = changed_read (set_place m.heap.now place v) _ 0 m.ram (place_tells m.heap.now place v (place_there p m.heap.now place v fits))
+  move_read (SetPlaces changes) fits = changed_read (set_places m.heap.now changes) _ 0 m.ram (places_tell m.heap.now changes (change_there p m changes fits))
   move_read (WriteNonAtomic place v) (inl counter) = cell_read place counter.0 2 v counter.1
   move_read (WriteNonAtomic place v) (inr element) = cell_read place element.array element.index v element.is
   move_read (SetCells at i words) fits = changed_read (set_cells m.heap.now at i words) _ 0 m.ram (run_tells m.heap.now at i words)

@@ -18,11 +18,11 @@ use Rattle.jc_heap.specs.WholeHeap.{AreAllocated}
 use Rattle.jc_heap.proofs.Laws.{heap_item_at-add_other}
 use Rattle.jc_heap.proofs.RecordWords.{record-other}
 use Rattle.jc_heap.proofs.StaticImages.{statics_set}
+use Rattle.jc_memory.proofs.KeptImages.{AreAllThere, IsThere, record-count, record-registry, record-set_cell}
 use Rattle.jc_linker.specs.Values.{Packages}
 use Rattle.jc_platform.specs.Tokens.{Tokens}
 use Rattle.jc_packages.specs.PendingPackages.{linked_components}
 use Rattle.jc_packages.specs.Reading.{load_of, packages_of, with_prepared, with_records}
-use Rattle.law_soundness.proofs.Cells.{record-set_cell}
 use Rattle.law_soundness.proofs.Statics.{record-set_word}
 use Rattle.law_soundness.proofs.Pins.{packages-set_place}
 use Rattle.law_soundness.proofs.Objects.{packages-add_object}
@@ -70,25 +70,6 @@ also h g f first second = record {
 
 -- ---- places
 
-record-registry : (h : HeapState) (i v q : ℕ) → record_of (set_place h (Registry i) v) q ≡ record_of h q
-unfolding heap_item_at
-record-registry h i v q = refl
-
-record-count : (h : HeapState) (v q : ℕ) → record_of (set_place h AppletCount v) q ≡ record_of h q
-unfolding heap_item_at
-record-count h v q = refl
-
--- a word of a package's record is one of its image
-abbrev pub IsPlaced : HeapState → Place → Type 0
-IsPlaced h (Cell r i) = Unit {0}
-IsPlaced h (Static r j) = IsStatic (record_of h r) j
-IsPlaced h (Registry i) = Unit {0}
-IsPlaced h AppletCount = Unit {0}
-
-abbrev pub ArePlaced : HeapState → List (Place × ℕ) → Type 0
-ArePlaced h [] = Unit {0}
-ArePlaced h (c ∷ cs) = IsPlaced h c.0 × ArePlaced h cs
-
 load-set_word : (h : HeapState) (r j v q : ℕ) → IsStatic (record_of h r) j → load_of (record_of (set_word h r j v) q) ≡ load_of (record_of h q)
 load-set_word h r j v q static = elim (cases_eq r q) [
   | inl is ↦ subst (λ n. load_of (record_of (set_word h r j v) n) ≡ load_of (record_of h n)) is
@@ -96,7 +77,7 @@ load-set_word h r j v q static = elim (cases_eq r q) [
   | inr ne ↦ ap load_of (record-other h r j v q ne)
 ]
 
-pub place_tells : (h : HeapState) (p : Place) (v : ℕ) → IsPlaced h p → TellSame h (set_place h p v)
+pub place_tells : (h : HeapState) (p : Place) (v : ℕ) → IsThere h p → TellSame h (set_place h p v)
 place_tells h (Cell r i) v placed = still h (set_cell h r i v) (packages-set_place h (Cell r i) v) (λ k lt. record-set_cell h r i v (get_or h.packages k 0))
 place_tells h (Static r j) v placed = record {
   packages = packages-set_place h (Static r j) v;
@@ -114,7 +95,7 @@ image_set words i j v static there = record {
   within = let within = static.within in let long = length-set words j v in omega (arith, within, long);
 }
 
-static_stays : (h : HeapState) (p : Place) (v q i : ℕ) → IsPlaced h p → IsStatic (record_of h q) i → IsStatic (record_of (set_place h p v) q) i
+static_stays : (h : HeapState) (p : Place) (v q i : ℕ) → IsThere h p → IsStatic (record_of h q) i → IsStatic (record_of (set_place h p v) q) i
 static_stays h (Cell r n) v q i placed static = subst (λ ws. IsStatic ws i) (sym (record-set_cell h r n v q)) static
 static_stays h (Static r j) v q i placed static = elim (cases_eq r q) [
   | inl is ↦
@@ -126,17 +107,17 @@ static_stays h (Static r j) v q i placed static = elim (cases_eq r q) [
 static_stays h (Registry n) v q i placed static = subst (λ ws. IsStatic ws i) (sym (record-registry h n v q)) static
 static_stays h AppletCount v q i placed static = subst (λ ws. IsStatic ws i) (sym (record-count h v q)) static
 
-placed_stays : (h : HeapState) (p q : Place) (v : ℕ) → IsPlaced h p → IsPlaced h q → IsPlaced (set_place h p v) q
+placed_stays : (h : HeapState) (p q : Place) (v : ℕ) → IsThere h p → IsThere h q → IsThere (set_place h p v) q
 placed_stays h p (Cell r i) v placed there = tt
 placed_stays h p (Static r j) v placed there = static_stays h p v r j placed there
 placed_stays h p (Registry i) v placed there = tt
 placed_stays h p AppletCount v placed there = tt
 
-all_stay : (h : HeapState) (p : Place) (v : ℕ) (cs : List (Place × ℕ)) → IsPlaced h p → ArePlaced h cs → ArePlaced (set_place h p v) cs
+all_stay : (h : HeapState) (p : Place) (v : ℕ) (cs : List (Place × ℕ)) → IsThere h p → AreAllThere h cs → AreAllThere (set_place h p v) cs
 all_stay h p v [] placed there = tt
 all_stay h p v (c ∷ cs) placed there = (placed_stays h p c.0 v placed there.0, all_stay h p v cs placed there.1)
 
-pub places_tell : (h : HeapState) (cs : List (Place × ℕ)) → ArePlaced h cs → TellSame h (set_places h cs)
+pub places_tell : (h : HeapState) (cs : List (Place × ℕ)) → AreAllThere h cs → TellSame h (set_places h cs)
 places_tell h [] placed = still h h refl (λ k lt. refl)
 places_tell h (c ∷ cs) placed =
     also h (set_place h c.0 c.1) (set_places (set_place h c.0 c.1) cs) (place_tells h c.0 c.1 placed.0)

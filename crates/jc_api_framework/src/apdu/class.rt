@@ -2,10 +2,14 @@
 ghost use Rattle.std.specs.Prelude.{◌≡◌};
 ghost use Rattle.jc_api_framework.specs.Apdu.Class.{class_byte, is_interindustry, is_valid_class, is_chained, is_further, is_secured, channel_of};
 
-/// The class byte of a command; 0 of none.
-pub(crate) fn class_byte(command: &[u8]) -> u8
-    ensures { result ≡ class_byte command.now }
+use jc_memory::Memory;
+use jc_words::WordStore;
+
+/// The class byte of the command; 0 of none.
+pub(crate) fn class_byte<S: WordStore>(memory: &Memory<S>) -> u8
+    ensures { result ≡ class_byte memory.now.command }
 {
+    let command = memory.command();
     if command.is_empty() {
         return 0;
     }

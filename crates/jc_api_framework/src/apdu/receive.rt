@@ -1,10 +1,9 @@
 //! The command's data are received.
 ghost use Rattle.std.specs.Prelude.{◌≡◌, ◌+◌, ◌-◌, ◌≤◌, false, length};
-ghost use Rattle.jc_heap.specs.Completions.{after_change};
 ghost use Rattle.jc_memory.specs.declared.registers.ApduPhase.TheVariants.{Received, Waiting};
-ghost use Rattle.jc_memory.specs.Cells.{cells_store};
 ghost use Rattle.jc_memory.specs.Programs.{Executes};
-ghost use Rattle.jc_world.specs.NativeCalls.{after_call};
+ghost use Rattle.jc_world.specs.Objects.{short_argument};
+ghost use Rattle.jc_world.specs.NativeCalls.{after_call, if_some};
 ghost use Rattle.jc_api_framework.specs.Apdu.Buffer.{IsBuffer, buffer_length};
 ghost use Rattle.jc_api_framework.specs.Apdu.{apdu_receive_bytes, apdu_set_incoming_and_receive, next_piece, receive_at, receive_from, receive_more, receive_in_phase, receive_piece};
 
@@ -14,10 +13,10 @@ use arrayvec::ArrayVec;
 use jc_api::{MOST_ELEMENTS, SMALL_PIECE};
 use jc_frames::Cell;
 use jc_frames::reasons::{BUFFER_BOUNDS, ILLEGAL_USE};
-use jc_heap::ChangeRefusal;
 use jc_memory::{ApduPhase, Memory, data_of, data_offset};
 use jc_transient::Ref;
 use jc_words::WordStore;
+use jc_world::arguments::short_argument;
 use jc_world::{NativeResult, StepExit};
 
 // The next of a command's data, of which `count` were received, as many as a buffer of this size takes from a place on.
@@ -32,20 +31,25 @@ fn next_piece(command: &[u8], count: u16, size: u16, at: u16) -> &[u8]
     &rest[..usize::from(size - at).min(rest.len())]
 }
 
-// Puts bytes into the buffer from a place on.
-fn put<S: WordStore>(
+// Receives this piece of the data, before which `count` bytes were received.
+fn receive_piece<S: WordStore>(
+    piece: &[u8],
     memory: &mut Memory<S>,
     buffer: Ref,
+    count: u16,
     at: u16,
-    bytes: &[u8],
-) -> Result<(), ChangeRefusal>
+) -> Result<NativeResult, StepExit>
     requires up { memory.old.heap.down ≡ false }
     requires buffer { IsBuffer memory.old buffer }
-    requires within { at + length bytes.now ≤ buffer_length memory.old buffer }
-    ensures { Executes (cells_store memory.old buffer at bytes.now) memory.old
-        (after_change result memory.new) }
+    requires within { at + length piece.now ≤ buffer_length memory.old buffer }
+    requires few { count + length piece.now ≤ 65535 }
+    ensures { Executes (receive_piece memory.old buffer count at piece.now) memory.old
+        (after_call result memory.new) }
 {
-    memory.set_bytes(buffer, at, bytes)
+    memory.set_bytes(buffer, at, piece)?;
+    let received = piece.len() as u16;
+    set_phase(memory, ApduPhase::Received(count + received));
+    Ok(NativeResult::ReturnValue(Cell::Short(received.cast_signed())))
 }
 
 // Receives a piece of the data, which has at most this many bytes.
@@ -67,9 +71,7 @@ fn receive_most<const MOST: usize, S: WordStore>(
     let size = buffer_length(buffer, memory);
     let mut piece = ArrayVec::<u8, MOST>::new();
     let _ = piece.try_extend_from_slice(next_piece(memory.command(), count, size, at));
-    put(memory, buffer, at, piece.as_slice())?;
-    set_phase(memory, ApduPhase::Received(count + piece.len() as u16));
-    Ok(NativeResult::ReturnValue(Cell::Short((piece.len() as u16).cast_signed())))
+    receive_piece(piece.as_slice(), memory, buffer, count, at)
 }
 
 // Receives the next piece of the data, of which `count` bytes were received, into the buffer from a place on.
@@ -162,13 +164,14 @@ fn receive_more<S: WordStore>(
 #[tactic(auto, unfolding(crate::specs::Apdu::apdu_receive_bytes))]
 #[inline(never)]
 pub(crate) fn apdu_receive_bytes<S: WordStore>(
-    at: i16,
+    args: &[Cell],
     memory: &mut Memory<S>,
 ) -> Result<NativeResult, StepExit>
     requires up { memory.old.heap.down ≡ false }
-    ensures { Executes (apdu_receive_bytes at memory.old) memory.old
-        (after_call result memory.new) }
+    ensures { Executes (if_some (short_argument args.now 1) (λ at. apdu_receive_bytes at memory.old))
+        memory.old (after_call result memory.new) }
 {
+    let at = short_argument(args, 1)?;
     match memory.registers().apdu.phase {
         ApduPhase::Received(count) => receive_more(memory, count, at),
         _ => Err(StepExit::Throw(ILLEGAL_USE)),

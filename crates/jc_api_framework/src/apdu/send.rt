@@ -1,10 +1,10 @@
 //! The answer's data are sent.
 ghost use Rattle.std.specs.Prelude.{◌≡◌, ◌≤◌, ◌+◌, false, IfOk, length};
-ghost use Rattle.jc_memory.specs.declared.registers.ApduPhase.TheVariants.{Sending};
+ghost use Rattle.jc_memory.specs.declared.registers.ApduPhase.TheVariants.{Outgoing, Sending};
 ghost use Rattle.jc_memory.specs.Programs.{Executes};
 ghost use Rattle.jc_world.specs.Objects.{short_argument};
 ghost use Rattle.jc_world.specs.NativeCalls.{after_call, if_some};
-ghost use Rattle.jc_api_framework.specs.Apdu.{apdu_set_outgoing_and_send, apdu_send_bytes, send_in_phase, expected_of, is_too_much, length_of, most_unchained, set_outgoing_in_phase};
+ghost use Rattle.jc_api_framework.specs.Apdu.{apdu_set_outgoing_and_send, apdu_send_bytes, send_in_phase, expected_of, is_too_much, length_of, most_unchained, set_length_in_phase, set_outgoing_in_phase};
 ghost use Rattle.jc_api_framework.specs.Apdu.{apdu_set_outgoing_length, apdu_set_outgoing, apdu_set_outgoing_no_chaining, phase_of, piece_of, buffer_piece};
 
 use crate::apdu::buffer::{buffer, buffer_length};
@@ -103,6 +103,21 @@ fn length_of(most: u16, count: i16) -> Result<u16, FrameExit>
     Ok(count)
 }
 
+// Says how many bytes are going to be sent, of which there may be at most that number.
+#[inline(always)]
+fn set_length<S: WordStore>(
+    most: u16,
+    count: i16,
+    memory: &mut Memory<S>,
+) -> Result<NativeResult, StepExit>
+    ensures { Executes (set_length_in_phase memory.old (Outgoing most) count) memory.old
+        (after_call result memory.new) }
+{
+    let count = length_of(most, count)?;
+    set_phase(memory, ApduPhase::Sending(count));
+    Ok(NativeResult::ReturnVoid)
+}
+
 /// `APDU.setOutgoingLength`: says how many bytes are going to be sent; once, after `setOutgoing`.
 #[tactic(auto, unfolding(crate::specs::Apdu::apdu_set_outgoing_length))]
 pub(crate) fn apdu_set_outgoing_length<S: WordStore>(
@@ -113,11 +128,7 @@ pub(crate) fn apdu_set_outgoing_length<S: WordStore>(
         (after_call result memory.new) }
 {
     match memory.registers().apdu.phase {
-        ApduPhase::Outgoing(most) => {
-            let count = length_of(most, count)?;
-            set_phase(memory, ApduPhase::Sending(count));
-            Ok(NativeResult::ReturnVoid)
-        }
+        ApduPhase::Outgoing(most) => set_length(most, count, memory),
         _ => Err(StepExit::Throw(ILLEGAL_USE)),
     }
 }
