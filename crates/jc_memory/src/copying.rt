@@ -3,8 +3,12 @@ ghost use Rattle.std.specs.Prelude.{◌≡◌, IfOk, [], false};
 ghost use Rattle.jc_words.specs.Count.{saturating_count};
 ghost use Rattle.jc_words.specs.Refusals.{with_fuse_at};
 
-use crate::memory::Memory;
+use crate::images::Images;
+use crate::kept::Kept;
+use crate::marks::Marks;
+use crate::memory::{MOST_COMMAND, MOST_SENT, Memory, Rooms};
 use arrayvec::ArrayVec;
+use jc_transient::Ram;
 use jc_words::{CopyStore, FuseStore, WordStore};
 use std::alloc::{AllocError, Global};
 
@@ -13,12 +17,10 @@ impl<S: CopyStore> Memory<S> {
     pub fn copy(&self, alloc: Global) -> Result<Memory<S>, AllocError>
         ensures { IfOk result (λ copy. copy ≡ self.now) }
     {
-        let ram = self.ram.copy(alloc)?;
-        let marks = self.marks.copy(alloc)?;
-        let images = self.images.copy()?;
         let fixed = copy_of(&self.fixed)?;
-        let command = self.command.copy(alloc)?;
-        let sent = self.sent.copy(alloc)?;
+        let rooms = copy_of_rooms(alloc, &self.command, &self.sent)?;
+        let (ram, marks, images) = copy_of_cells(alloc, &self.ram, &self.marks, &self.images)?;
+        // It owns most, and nothing is refused after it.
         let heap = self.heap.copy(alloc)?;
         Ok(Memory {
             heap,
@@ -27,11 +29,40 @@ impl<S: CopyStore> Memory<S> {
             marks,
             images,
             registers: self.registers,
-            command,
-            sent,
+            command: rooms.command,
+            sent: rooms.sent,
             notes: self.notes.share(),
         })
     }
+}
+
+// Other rooms with the same bytes.
+fn copy_of_rooms(
+    alloc: Global,
+    command: &Kept<MOST_COMMAND>,
+    sent: &Kept<MOST_SENT>,
+) -> Result<Rooms, AllocError>
+    ensures { IfOk result (λ copy. (copy.command ≡ command.now) × (copy.sent ≡ sent.now)) }
+{
+    let command = command.copy(alloc)?;
+    let sent = sent.copy(alloc)?;
+    Ok(Rooms { command, sent })
+}
+
+// The same transient contents, marks and static images.
+fn copy_of_cells(
+    alloc: Global,
+    ram: &Ram,
+    marks: &Marks,
+    images: &Images,
+) -> Result<(Ram, Marks, Images), AllocError>
+    ensures { IfOk result (λ copy. (copy.0 ≡ ram.now) × (copy.1 ≡ marks.now)
+        × (copy.2 ≡ images.now)) }
+{
+    let images = images.copy()?;
+    let marks = marks.copy(alloc)?;
+    let ram = ram.copy(alloc)?;
+    Ok((ram, marks, images))
 }
 
 impl<S: WordStore> Memory<FuseStore<S>> {
