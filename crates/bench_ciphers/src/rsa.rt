@@ -3,8 +3,9 @@
 ghost use Rattle.std.specs.Prelude.{◌≡◌, ◌≤◌, length};
 
 use crate::words::{bytes, bytes_of_all};
+use jc_public_keys::rsa_keys::{MOST_PARTS, put_rsa_pair};
 use jc_rsa::crt::{CrtKey, crt_power};
-use jc_rsa::key_pair::{FEWEST_OF_PRIME, KeyPairError, KeyParts, MOST_OF_PRIME, SEED, generate};
+use jc_rsa::key_pair::{FEWEST_OF_PRIME, MOST_OF_PRIME, SEED};
 use jc_rsa::power::{PowerError, power};
 use jc_rsa::primes::is_probable_prime;
 use std::alloc::{AllocError, Global};
@@ -117,42 +118,24 @@ fn key_of(
     requires some { 32 ≤ size }
     requires few { size ≤ 256 }
 {
-    let mut p = [0; MOST_OF_PRIME];
-    let mut q = [0; MOST_OF_PRIME];
-    let mut dp = [0; MOST_OF_PRIME];
-    let mut dq = [0; MOST_OF_PRIME];
-    let mut q_inverse = [0; MOST_OF_PRIME];
-    let mut modulus = [0; 512];
-    let mut private_exponent = [0; 512];
-    let made = generate(
-        seed,
-        exponent,
-        KeyParts {
-            p: &mut p[..size],
-            q: &mut q[..size],
-            dp: &mut dp[..size],
-            dq: &mut dq[..size],
-            q_inverse: &mut q_inverse[..size],
-            modulus: &mut modulus[..2 * size],
-            private_exponent: &mut private_exponent[..2 * size],
-        },
-    );
-    match made {
-        Ok(()) => text_of(
-            alloc,
-            &[
-                &modulus[..2 * size],
-                &private_exponent[..2 * size],
-                &p[..size],
-                &q[..size],
-                &dp[..size],
-                &dq[..size],
-                &q_inverse[..size],
-            ],
-        ),
-        Err(KeyPairError::ExponentNotUsable) => String::from_str(alloc, "exponent"),
-        Err(KeyPairError::NoPrimesFound) => String::from_str(alloc, "primes"),
+    let mut room = [0; MOST_PARTS];
+    let parts = &mut room[..9 * size];
+    if !put_rsa_pair(seed, exponent, size, parts) {
+        return String::from_str(alloc, "none");
     }
+    let (primes, whole) = parts.split_at(5 * size);
+    text_of(
+        alloc,
+        &[
+            &primes[..size],
+            &primes[size..2 * size],
+            &primes[2 * size..3 * size],
+            &primes[3 * size..4 * size],
+            &primes[4 * size..],
+            &whole[..2 * size],
+            &whole[2 * size..],
+        ],
+    )
 }
 
 // Parts with spaces between.

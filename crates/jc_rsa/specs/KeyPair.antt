@@ -7,7 +7,6 @@ use Rattle.jc_numbers.specs.Numbers.{number_of_bytes}
 use Rattle.jc_rsa.specs.Mgf1.{mgf1}
 use Rattle.jc_rsa.specs.Power.{IsUsable}
 use Rattle.jc_rsa.specs.Primes.{IsProbablePrime}
-use Rattle.jc_rsa.specs.declared.key_pair.KeyParts.{KeyParts}
 use Rattle.jc_rsa.specs.declared.key_pair.KeyPairError.{KeyPairError}
 use Rattle.jc_rsa.specs.declared.key_pair.KeyPairError.TheVariants.{ExponentNotUsable, NoPrimesFound}
 
@@ -81,18 +80,6 @@ pub record Parts : Type 0 where
   pub modulus : List ℕ
   pub private_exponent : List ℕ
 
--- those in rooms
-abbrev pub parts_of : KeyParts → Parts
-parts_of k = record {
-  p = k.p.now;
-  q = k.q.now;
-  dp = k.dp.now;
-  dq = k.dq.now;
-  q_inverse = k.q_inverse.now;
-  modulus = k.modulus.now;
-  private_exponent = k.private_exponent.now;
-}
-
 -- p has 32 to 256 bytes, q, dP, dQ and qInv as many, and the modulus and the private exponent twice as many
 pub record HasRooms (k : Parts) : Type 0 where
   pub some : 32 ≤ length k.p
@@ -111,8 +98,3 @@ pub record IsKeyPair (e : ℕ) (k : Parts) : Type 0 where
   pub q_inverse : IsInverseBelow (number_of_bytes k.p) (number_of_bytes k.q) (number_of_bytes k.q_inverse)
   pub modulus : number_of_bytes k.modulus ≡ number_of_bytes k.p * number_of_bytes k.q
   pub private_exponent : IsInverseBelow ((number_of_bytes k.p - 1) * (number_of_bytes k.q - 1)) e (number_of_bytes k.private_exponent)
-
--- what becomes of rooms: the key pair of the primes of a seed, or an error with the bytes as they were
-abbrev pub KeyPairGives : List ℕ → ℕ → Parts → Parts → Result ⊤ KeyPairError → Type 0
-KeyPairGives seed e old new (Ok _) = IsUsable e × ArePrimesOf seed e (length old.p) new.p new.q × IsKeyPair e new
-KeyPairGives seed e old new (Err error) = PrimesGive seed e old.p old.q new.p new.q (Err error) × (new ≡ old)

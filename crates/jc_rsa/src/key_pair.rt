@@ -1,9 +1,9 @@
 //! Key pairs from a seed (RFC 8017, 3).
 
-ghost use Rattle.std.specs.Prelude.{◌≡◌, ◌≤◌, ◌<◌, ◌+◌, ◌-◌, ◌*◌, ◌^◌, ◌↔◌, IsTrue, IfSome, MatchOption, length};
+ghost use Rattle.std.specs.Prelude.{◌≡◌, ◌≤◌, ◌<◌, ◌+◌, ◌-◌, ◌*◌, ◌^◌, ◌↔◌, ℕ, List, IsTrue, IsFalse, IfSome, MatchOption, length};
 ghost use Rattle.jc_numbers.specs.Inverses.{HasInverse};
 ghost use Rattle.jc_numbers.specs.Numbers.{number_of_bytes, value};
-ghost use Rattle.jc_rsa.specs.KeyPair.{HasNoneTaken, HasRooms, IsFirstTaken, IsInverseBelow, IsTaken, KeyPairGives, PrimesGive, candidate, parts_of};
+ghost use Rattle.jc_rsa.specs.KeyPair.{ArePrimesOf, HasNoneTaken, IsFirstTaken, IsInverseBelow, IsTaken, PrimesGive, candidate};
 
 use crate::bytes::{MOST_ENCODING, put};
 use crate::mgf1::put_mask;
@@ -32,19 +32,6 @@ const MOST_CANDIDATES: u32 = 16384;
 // The bases of the test of Miller and Rabin. FIPS 186-4, tables C.2 and C.3, ask for at most seven rounds for primes of 512 bits and
 // more, by random bases; here the candidates are random, and the bases are not.
 const BASES: [u8; 8] = [2, 3, 5, 7, 11, 13, 17, 19];
-
-/// Rooms for the parts of a key pair: p, q, dP, dQ and qInv, of as many bytes each, and the modulus and the private exponent,
-/// of twice as many.
-#[derive(Drop)]
-pub struct KeyParts<'a> {
-    pub p: &'a mut [u8],
-    pub q: &'a mut [u8],
-    pub dp: &'a mut [u8],
-    pub dq: &'a mut [u8],
-    pub q_inverse: &'a mut [u8],
-    pub modulus: &'a mut [u8],
-    pub private_exponent: &'a mut [u8],
-}
 
 /// Why there is no key pair.
 #[derive(Clone, Copy)]
@@ -196,6 +183,30 @@ fn find_prime(seed: &[u8; SEED], start: u32, exponent: &[u8], to: &mut [u8]) -> 
     None
 }
 
+// Writes the first two candidates that are taken, and reports whether they are the primes of the seed: whether there are two, which differ.
+fn put_first_two(seed: &[u8; SEED], exponent: &[u8], first: &mut [u8], second: &mut [u8]) -> bool
+    requires exponent { length exponent.now ≤ MOST_ENCODING }
+    requires some { FEWEST_OF_PRIME ≤ length first.old }
+    requires few { length first.old ≤ MOST_OF_PRIME }
+    requires same { length second.old ≡ length first.old }
+    ensures primes { IsTrue result
+        → ArePrimesOf seed.now (number_of_bytes exponent.now) (length first.old) first.new second.new }
+    ensures none { IsFalse result → (p q : List ℕ)
+        → ¬ (ArePrimesOf seed.now (number_of_bytes exponent.now) (length first.old) p q) }
+{
+    let Some(number) = find_prime(seed, 0, exponent, first) else {
+        return false;
+    };
+    let Some(_next) = find_prime(seed, number + 1, exponent, second) else {
+        return false;
+    };
+    let mut room = [0; MOST_OF_PRIME];
+    if !put_coefficient(&mut room[..first.len()], first, second) {
+        return false;
+    }
+    true
+}
+
 /// Writes two primes p and q of a seed for a public exponent, of as many bytes as the rooms: the first two candidates that are
 /// taken. After an error the bytes are as they were.
 pub fn find_primes(
@@ -215,51 +226,12 @@ pub fn find_primes(
     }
     let mut first_buffer = [0; MOST_OF_PRIME];
     let first = &mut first_buffer[..p.len()];
-    let Some(number) = find_prime(seed, 0, exponent, first) else {
-        return Err(KeyPairError::NoPrimesFound);
-    };
     let mut second_buffer = [0; MOST_OF_PRIME];
     let second = &mut second_buffer[..p.len()];
-    if find_prime(seed, number + 1, exponent, second).is_none() {
-        return Err(KeyPairError::NoPrimesFound);
-    }
-    let mut room = [0; MOST_OF_PRIME];
-    if !put_coefficient(&mut room[..p.len()], first, second) {
+    if !put_first_two(seed, exponent, first, second) {
         return Err(KeyPairError::NoPrimesFound);
     }
     p.copy_from_slice(first);
     q.copy_from_slice(second);
-    Ok(())
-}
-
-/// Writes the key pair of a seed for a public exponent. After an error the bytes are as they were.
-pub fn generate(seed: &[u8; SEED], exponent: &[u8], parts: KeyParts) -> Result<(), KeyPairError>
-    requires exponent { length exponent.now ≤ MOST_ENCODING }
-    requires rooms { HasRooms (parts_of parts) }
-    ensures { KeyPairGives seed.now (number_of_bytes exponent.now) (parts_of parts.entry) (record {
-      p = parts.exit.0.now;
-      q = parts.exit.1.0.now;
-      dp = parts.exit.1.1.0.now;
-      dq = parts.exit.1.1.1.0.now;
-      q_inverse = parts.exit.1.1.1.1.0.now;
-      modulus = parts.exit.1.1.1.1.1.0.now;
-      private_exponent = parts.exit.1.1.1.1.1.1.0.now;
-    }) result }
-{
-    let KeyParts {
-        p,
-        q,
-        dp,
-        dq,
-        q_inverse,
-        modulus,
-        private_exponent,
-    } = parts;
-    find_primes(seed, exponent, p, q)?;
-    put_crt_exponent(dp, exponent, p);
-    put_crt_exponent(dq, exponent, q);
-    put_coefficient(q_inverse, p, q);
-    put_modulus(modulus, p, q);
-    put_private_exponent(private_exponent, exponent, p, q);
     Ok(())
 }
