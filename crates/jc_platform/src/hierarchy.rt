@@ -86,7 +86,7 @@ impl PlatformClass {
     pub fn cells(self) -> u8
         ensures { result ≡ cells_of self }
     {
-        self.row().cells.len() as u8
+        self.row().cells.kinds().len() as u8
     }
 
     /// This cell of an instance holds a reference: the fifth of an `OwnerPIN` does, the second of an engine or a key,
@@ -95,7 +95,7 @@ impl PlatformClass {
     pub fn holds_reference(self, cell: u16) -> bool
         ensures { result ≡ holds_reference self cell }
     {
-        is_reference(self.row().cells.get(usize::from(cell)).copied())
+        is_reference(self.row().cells.kinds().get(usize::from(cell)).copied())
     }
 
     /// Its instances can be thrown, and carry a reason.
