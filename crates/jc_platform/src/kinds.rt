@@ -44,6 +44,7 @@ pub enum InstanceCells {
 
 impl InstanceCells {
     /// What each holds.
+    #[inline(always)]
     pub(crate) fn kinds(self) -> &'static [CellKind]
         ensures { result.now ≡ kinds_in self }
     {
