@@ -1,5 +1,5 @@
 -- The methods of a class stand together in their room.
-use Rattle.std.proofs.Common.{◌≡◌, ◌≤◌, ◌-◌, ◌&&◌, ◌||◌, Bool, true, false, cond, List, [], ◌∷◌, take, drop, map, get_or, length, refl, ap, ◌∙◌, ℕ, lit≤}
+use Rattle.std.proofs.Common.{◌≡◌, ◌≤◌, ◌-◌, ◌&&◌, ◌||◌, Bool, true, false, cond, List, [], ◌∷◌, take, drop, get_or, length, refl, ap, ℕ, lit≤}
 use Rattle.std.specs.List.{filter, list_any}
 use Rattle.jc_platform.specs.declared.names.PlatformClass.{PlatformClass}
 use Rattle.jc_platform.specs.declared.names.PlatformClass.TheVariants.{Object}
@@ -8,15 +8,12 @@ use Rattle.jc_platform.specs.declared.rows.Room.TheVariants.{Objects, Exceptions
 use Rattle.jc_platform.specs.declared.rows.Room.TheVariants.{Keys, KeyInterfaces, Ciphers}
 use Rattle.jc_platform.specs.declared.rows.Room.TheVariants.{RsaKeys, EcKeys, RsaInterfaces, EcInterfaces, KeyPairs}
 use Rattle.jc_platform.specs.declared.rows.Stretch.{Stretch}
-use Rattle.jc_platform.specs.declared.rows.MethodRow.{MethodRow}
 use Rattle.jc_platform.specs.Names.{objects_rows, exceptions_rows, utilities_rows, system_rows, aids_rows, pins_rows, applets_rows, apdus_rows, events_rows, engines_rows}
 use Rattle.jc_platform.specs.Names.{keys_rows, key_interfaces_rows, ciphers_rows}
 use Rattle.jc_platform.specs.Names.{rsa_keys_rows, ec_keys_rows, rsa_interfaces_rows, ec_interfaces_rows, key_pairs_rows}
 use Rattle.jc_platform.specs.Numbers.{class_number}
 use Rattle.jc_platform.specs.Lookup.{rows_of}
 use Rattle.jc_platform.specs.Rows.{methods_of}
-use Rattle.jc_platform.specs.RowValues.{method_value}
-use Rattle.jc_platform.proofs.Lists.{shown_between}
 
 pub any-filter : {X : Type 0} (p q r : X → Bool) (xs : List X) → list_any (λ x. p x && q x && r x) xs ≡ list_any (λ x. q x && r x) (filter p xs)
 any-filter p q r [] = refl
@@ -106,14 +103,12 @@ unfolding objects_rows exceptions_rows utilities_rows system_rows aids_rows pins
 ends_within Object = lit≤ tt
 ends_within _ = lit≤ tt
 
-stand_together : (c : PlatformClass) → take ((stretch_of (class_number c)).end - (stretch_of (class_number c)).first)
+pub in_order : (c : PlatformClass) → (stretch_of (class_number c)).first ≤ (stretch_of (class_number c)).end
+in_order Object = lit≤ tt
+in_order _ = lit≤ tt
+
+pub stand_together : (c : PlatformClass) → take ((stretch_of (class_number c)).end - (stretch_of (class_number c)).first)
     (drop (stretch_of (class_number c)).first (rows_of (stretch_of (class_number c)).room)) ≡ methods_of c
 unfolding objects_rows exceptions_rows utilities_rows system_rows aids_rows pins_rows applets_rows apdus_rows events_rows engines_rows keys_rows key_interfaces_rows ciphers_rows rsa_keys_rows ec_keys_rows rsa_interfaces_rows ec_interfaces_rows key_pairs_rows
 stand_together Object = refl
 stand_together _ = refl
-
-pub are_together : (c : PlatformClass) (n : ℕ) (all : List MethodRow) → map method_value all ≡ rows_of (stretch_of n).room → n ≡ class_number c
-    → map method_value (take ((stretch_of n).end - (stretch_of n).first) (drop (stretch_of n).first all)) ≡ methods_of c
-are_together c n all is place =
-    shown_between method_value (stretch_of n).first (stretch_of n).end all (rows_of (stretch_of n).room) is
-    ∙ ap (λ (k : ℕ). take ((stretch_of k).end - (stretch_of k).first) (drop (stretch_of k).first (rows_of (stretch_of k).room))) place ∙ stand_together c

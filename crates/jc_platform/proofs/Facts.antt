@@ -1,5 +1,5 @@
 -- What holds of the whole lists of rows, by computation: a new row needs no proof.
-use Rattle.std.proofs.Common.{◌≡◌, ◌==◌, ◌&&◌, ◌||◌, not, ℕ, Bool, true, false, List, Option, None, Some, length, get_or, refl}
+use Rattle.std.proofs.Common.{◌≡◌, ◌<◌, ◌==◌, ◌&&◌, ◌||◌, not, ℕ, Bool, true, false, List, Option, None, Some, length, get_or, lit<, refl}
 use Rattle.std.specs.Prelude.{nat_lt, find}
 use Rattle.std.specs.List.{list_all, list_any}
 use Rattle.std.specs.Str.{bytes_eq}
@@ -31,7 +31,7 @@ use Rattle.jc_platform.specs.declared.key_methods.EcKeysMethod.TheVariants.{EcKe
 use Rattle.jc_platform.specs.declared.key_methods.RsaInterfacesMethod.TheVariants.{PrivateKeyClearKey}
 use Rattle.jc_platform.specs.declared.key_methods.EcInterfacesMethod.TheVariants.{EcKeySetFieldFp}
 use Rattle.jc_platform.specs.declared.key_methods.KeyPairsMethod.TheVariants.{KeyPairInit}
-use Rattle.jc_platform.specs.NamePlaces.{class_of, entry_of_class, entry_of_method, home_of, kind_of_method, name_of_method}
+use Rattle.jc_platform.specs.NamePlaces.{class_of, entry_of_class, entry_of_method, home_of, kind_of_method, name_of_method, room_place, room_rows}
 use Rattle.jc_platform.specs.Hierarchy.{is_exception_form, is_interface_form}
 use Rattle.jc_platform.specs.Names.{MethodEntry, classes, methods, no_method}
 use Rattle.jc_platform.specs.Names.{objects_rows, exceptions_rows, utilities_rows, system_rows, aids_rows, pins_rows, applets_rows, apdus_rows, events_rows, engines_rows}
@@ -39,9 +39,6 @@ use Rattle.jc_platform.specs.Names.{keys_rows, key_interfaces_rows, ciphers_rows
 use Rattle.jc_platform.specs.Names.{rsa_keys_rows, ec_keys_rows, rsa_interfaces_rows, ec_interfaces_rows, key_pairs_rows}
 use Rattle.jc_platform.specs.Numbers.{class_count, class_number, method_count, method_number, same_class, same_kind, same_package}
 use Rattle.jc_platform.specs.Signatures.{is_constructor_name, receiver_cells}
-use Rattle.jc_platform.specs.Numbers.{objects_count, exceptions_count, utilities_count, system_count, aids_count, pins_count, applets_count, apdus_count, events_count, engines_count}
-use Rattle.jc_platform.specs.Numbers.{keys_count, key_interfaces_count, ciphers_count}
-use Rattle.jc_platform.specs.Numbers.{rsa_keys_count, ec_keys_count, rsa_interfaces_count, ec_interfaces_count, key_pairs_count}
 
 -- ---- how many there are
 
@@ -53,77 +50,44 @@ pub method_places : length methods ≡ method_count
 unfolding objects_rows exceptions_rows utilities_rows system_rows aids_rows pins_rows applets_rows apdus_rows events_rows engines_rows keys_rows key_interfaces_rows ciphers_rows rsa_keys_rows ec_keys_rows rsa_interfaces_rows ec_interfaces_rows key_pairs_rows
 method_places = refl
 
-pub objects_places : length objects_rows ≡ objects_count
-unfolding objects_rows
-objects_places = refl
-
-pub exceptions_places : length exceptions_rows ≡ exceptions_count
-unfolding exceptions_rows
-exceptions_places = refl
-
-pub utilities_places : length utilities_rows ≡ utilities_count
-unfolding utilities_rows
-utilities_places = refl
-
-pub system_places : length system_rows ≡ system_count
-unfolding system_rows
-system_places = refl
-
-pub aids_places : length aids_rows ≡ aids_count
-unfolding aids_rows
-aids_places = refl
-
-pub pins_places : length pins_rows ≡ pins_count
-unfolding pins_rows
-pins_places = refl
-
-pub applets_places : length applets_rows ≡ applets_count
-unfolding applets_rows
-applets_places = refl
-
-pub apdus_places : length apdus_rows ≡ apdus_count
-unfolding apdus_rows
-apdus_places = refl
-
-pub events_places : length events_rows ≡ events_count
-unfolding events_rows
-events_places = refl
-
-pub engines_places : length engines_rows ≡ engines_count
-unfolding engines_rows
-engines_places = refl
-
-pub keys_places : length keys_rows ≡ keys_count
-unfolding keys_rows
-keys_places = refl
-
-pub key_interfaces_places : length key_interfaces_rows ≡ key_interfaces_count
-unfolding key_interfaces_rows
-key_interfaces_places = refl
-
-pub ciphers_places : length ciphers_rows ≡ ciphers_count
-unfolding ciphers_rows
-ciphers_places = refl
-
-pub rsa_keys_places : length rsa_keys_rows ≡ rsa_keys_count
-unfolding rsa_keys_rows
-rsa_keys_places = refl
-
-pub ec_keys_places : length ec_keys_rows ≡ ec_keys_count
-unfolding ec_keys_rows
-ec_keys_places = refl
-
-pub rsa_interfaces_places : length rsa_interfaces_rows ≡ rsa_interfaces_count
-unfolding rsa_interfaces_rows
-rsa_interfaces_places = refl
-
-pub ec_interfaces_places : length ec_interfaces_rows ≡ ec_interfaces_count
-unfolding ec_interfaces_rows
-ec_interfaces_places = refl
-
-pub key_pairs_places : length key_pairs_rows ≡ key_pairs_count
-unfolding key_pairs_rows
-key_pairs_places = refl
+pub room_places : (m : PlatformMethod) → room_place m < length (room_rows m)
+unfolding objects_rows exceptions_rows utilities_rows system_rows aids_rows pins_rows applets_rows apdus_rows events_rows engines_rows keys_rows key_interfaces_rows ciphers_rows rsa_keys_rows ec_keys_rows rsa_interfaces_rows ec_interfaces_rows key_pairs_rows
+room_places (Objects ObjectInit) = lit< tt
+room_places (Objects _) = lit< tt
+room_places (Exceptions CardExceptionInit) = lit< tt
+room_places (Exceptions _) = lit< tt
+room_places (Utilities UtilArrayCompare) = lit< tt
+room_places (Utilities _) = lit< tt
+room_places (System JcSystemAbortTransaction) = lit< tt
+room_places (System _) = lit< tt
+room_places (Aids AidInit) = lit< tt
+room_places (Aids _) = lit< tt
+room_places (Pins PinCheck) = lit< tt
+room_places (Pins _) = lit< tt
+room_places (Applets AppletInit) = lit< tt
+room_places (Applets _) = lit< tt
+room_places (Apdus ApduGetBuffer) = lit< tt
+room_places (Apdus _) = lit< tt
+room_places (Events MultiSelectableSelect) = lit< tt
+room_places (Events _) = lit< tt
+room_places (Engines MessageDigestGetInstance) = lit< tt
+room_places (Engines _) = lit< tt
+room_places (Keys KeyBuilderBuildKey) = lit< tt
+room_places (Keys _) = lit< tt
+room_places (KeyInterfaces KeyClearKey) = lit< tt
+room_places (KeyInterfaces _) = lit< tt
+room_places (Ciphers CipherGetInstance) = lit< tt
+room_places (Ciphers _) = lit< tt
+room_places (RsaKeys RsaKeyObjectSetModulus) = lit< tt
+room_places (RsaKeys _) = lit< tt
+room_places (EcKeys EcKeyObjectSetFieldFp) = lit< tt
+room_places (EcKeys _) = lit< tt
+room_places (RsaInterfaces PrivateKeyClearKey) = lit< tt
+room_places (RsaInterfaces _) = lit< tt
+room_places (EcInterfaces EcKeySetFieldFp) = lit< tt
+room_places (EcInterfaces _) = lit< tt
+room_places (KeyPairs KeyPairInit) = lit< tt
+room_places (KeyPairs _) = lit< tt
 
 -- ---- each name has its own row, so numbers are distinct
 

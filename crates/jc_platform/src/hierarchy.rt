@@ -3,7 +3,7 @@
 ghost use Rattle.std.specs.Prelude.{◌≡◌};
 ghost use Rattle.jc_platform.specs.NamePlaces.{home_of, name_of_class};
 ghost use Rattle.jc_platform.specs.Hierarchy.{carries_reason, cells_of, holds_reference, implementation_of, interfaces_of, is_instantiable, is_interface};
-ghost use Rattle.jc_platform.specs.Hierarchy.{is_throwable, is_thrown, superclass_of};
+ghost use Rattle.jc_platform.specs.Hierarchy.{is_reference, is_throwable, is_thrown, superclass_of};
 
 use crate::kinds::{CellKind, ClassForm};
 use crate::names::{PlatformClass, PlatformMethod, PlatformPackage};
@@ -86,7 +86,7 @@ impl PlatformClass {
     pub fn cells(self) -> u8
         ensures { result ≡ cells_of self }
     {
-        self.row().cells.len() as u8
+        self.row().cells.kinds().len() as u8
     }
 
     /// This cell of an instance holds a reference: the fifth of an `OwnerPIN` does, the second of an engine or a key,
@@ -95,10 +95,7 @@ impl PlatformClass {
     pub fn holds_reference(self, cell: u16) -> bool
         ensures { result ≡ holds_reference self cell }
     {
-        match self.row().cells.get(usize::from(cell)) {
-            Some(CellKind::Reference) => true,
-            _ => false,
-        }
+        is_reference(self.row().cells.kinds().get(usize::from(cell)).copied())
     }
 
     /// Its instances can be thrown, and carry a reason.
@@ -107,6 +104,17 @@ impl PlatformClass {
         ensures { result ≡ carries_reason self }
     {
         self.is_throwable() && self.cells() > 0
+    }
+}
+
+// A cell of this kind holds a reference.
+#[inline(always)]
+fn is_reference(kind: Option<CellKind>) -> bool
+    ensures { result ≡ is_reference kind }
+{
+    match kind {
+        Some(CellKind::Reference) => true,
+        _ => false,
     }
 }
 

@@ -1,5 +1,8 @@
 //! What rows say of classes and methods.
 
+ghost use Rattle.std.specs.Prelude.{◌≡◌};
+ghost use Rattle.jc_platform.specs.RowValues.{kinds_in};
+
 use crate::names::PlatformClass;
 
 /// What a class is.
@@ -19,6 +22,46 @@ pub enum ClassForm {
 pub enum CellKind {
     Number,
     Reference,
+}
+
+/// What the cells of an instance hold.
+#[derive(Clone, Copy)]
+pub enum InstanceCells {
+    Empty,
+    /// The reason of an exception.
+    Reason,
+    /// The length of an AID, and its bytes, two in a cell.
+    Aid,
+    /// The limit of an `OwnerPIN`, its maximum size, tries, length and value.
+    Pin,
+    /// The algorithm of an engine and its state, or the type of a key and its data.
+    Engine,
+    /// The algorithm of a `KeyPair` and its two keys, or of a `KeyAgreement` with its state and its key.
+    Pair,
+    /// The algorithm of a cipher, its state, key, mode and vector, two bytes in a cell.
+    Cipher,
+}
+
+impl InstanceCells {
+    /// What each holds.
+    #[inline(always)]
+    pub(crate) fn kinds(self) -> &'static [CellKind]
+        ensures { result.now ≡ kinds_in self }
+    {
+        use CellKind::{Number, Reference};
+        match self {
+            InstanceCells::Empty => &[],
+            InstanceCells::Reason => &[Number],
+            InstanceCells::Aid => &[Number; 9],
+            InstanceCells::Pin => &[Number, Number, Number, Number, Reference],
+            InstanceCells::Engine => &[Number, Reference],
+            InstanceCells::Pair => &[Number, Reference, Reference],
+            InstanceCells::Cipher => &[
+                Number, Reference, Reference, Number, Number, Number, Number, Number, Number,
+                Number, Number, Number,
+            ],
+        }
+    }
 }
 
 /// What a parameter takes. Each has one cell.

@@ -1,6 +1,6 @@
 //! Looking rows up.
 
-ghost use Rattle.std.specs.Prelude.{◌≡◌, ◌<◌, ◌&&◌, find, length, map};
+ghost use Rattle.std.specs.Prelude.{◌≡◌, ◌≤◌, ◌-◌, ◌&&◌, drop, find, length, map, take};
 ghost use Rattle.std.specs.Option.{option_map};
 ghost use Rattle.std.specs.Str.{bytes_eq};
 ghost use Rattle.jc_platform.specs.NamePlaces.{entry_of_class, entry_of_method, room_place, room_rows};
@@ -16,7 +16,7 @@ use crate::names::{MethodKind, PlatformClass, PlatformMethod, PlatformPackage};
 use crate::rows::{
     AIDS, APDUS, APPLETS, CIPHERS, CLASSES, ClassRow, EC_INTERFACES, EC_KEYS, ENGINES, EVENTS,
     EXCEPTIONS, FIRST_CLASSES, KEY_INTERFACES, KEY_PAIRS, KEYS, MethodRow, OBJECTS, PACKAGES, PINS,
-    PackageRow, RSA_INTERFACES, RSA_KEYS, Room, STRETCHES, SYSTEM, UTILITIES,
+    PackageRow, RSA_INTERFACES, RSA_KEYS, Room, STRETCHES, SYSTEM, Stretch, UTILITIES,
 };
 
 /// Every package.
@@ -199,8 +199,19 @@ impl Room {
 pub fn methods_of(class: PlatformClass) -> &'static [MethodRow]
     ensures { map method_value result.now ≡ methods_of class }
 {
-    let stretch = STRETCHES[class.index()];
+    let stretch = stretch_of(class);
     &stretch.room.rows()[stretch.first..stretch.end]
+}
+
+// Where they stand.
+#[inline(always)]
+fn stretch_of(class: PlatformClass) -> Stretch
+    ensures order { result.first ≤ result.end }
+    ensures within { result.end ≤ length (rows_of result.room) }
+    ensures together { take (result.end - result.first) (drop result.first (rows_of result.room))
+        ≡ methods_of class }
+{
+    STRETCHES[class.index()]
 }
 
 impl PlatformClass {
@@ -242,11 +253,9 @@ impl PlatformMethod {
     }
 
     // Its place in its room.
-    #[tactic(auto, using(crate::proofs::Facts::objects_places, crate::proofs::Facts::exceptions_places, crate::proofs::Facts::utilities_places, crate::proofs::Facts::system_places, crate::proofs::Facts::aids_places, crate::proofs::Facts::pins_places, crate::proofs::Facts::applets_places, crate::proofs::Facts::apdus_places, crate::proofs::Facts::events_places, crate::proofs::Facts::engines_places, crate::proofs::Facts::keys_places, crate::proofs::Facts::key_interfaces_places, crate::proofs::Facts::ciphers_places, crate::proofs::Facts::rsa_keys_places, crate::proofs::Facts::ec_keys_places, crate::proofs::Facts::rsa_interfaces_places, crate::proofs::Facts::ec_interfaces_places, crate::proofs::Facts::key_pairs_places))]
     #[inline(always)]
     fn room_place(self) -> usize
-        ensures place { result ≡ room_place self }
-        ensures within { result < length (room_rows self) }
+        ensures { result ≡ room_place self }
     {
         match self {
             PlatformMethod::Objects(method) => method.index(),

@@ -4,7 +4,7 @@ use crate::key_methods::{
     EC_INTERFACES_COUNT, EC_KEYS_COUNT, EcInterfacesMethod, EcKeysMethod, KEY_PAIRS_COUNT,
     KeyPairsMethod, RSA_INTERFACES_COUNT, RSA_KEYS_COUNT, RsaInterfacesMethod, RsaKeysMethod,
 };
-use crate::kinds::{Answer, CellKind, ClassForm, ParameterKind, Receiver};
+use crate::kinds::{Answer, ClassForm, InstanceCells, ParameterKind, Receiver};
 use crate::names::{
     AIDS_COUNT, APDUS_COUNT, APPLETS_COUNT, AidsMethod, ApdusMethod, AppletsMethod, CIPHERS_COUNT,
     CLASS_COUNT, CiphersMethod, ENGINES_COUNT, EVENTS_COUNT, EXCEPTIONS_COUNT, EnginesMethod,
@@ -35,7 +35,7 @@ pub struct ClassRow {
     pub interfaces: &'static [PlatformClass],
     pub form: ClassForm,
     /// What the cells of an instance hold.
-    pub cells: &'static [CellKind],
+    pub cells: InstanceCells,
     /// Code may make instances of it by `new`.
     pub instantiable: bool,
     /// The runtime environment has an instance of its own, which it throws.
@@ -61,7 +61,7 @@ pub struct MethodRow {
 }
 
 macro_rules! class {
-    ($package:ident $class:ident $name:literal [] [$($interface:ident)*] $form:ident [$($cell:ident)*] $instantiable:literal $thrown:literal) => {
+    ($package:ident $class:ident $name:literal [] [$($interface:ident)*] $form:ident $cells:ident $instantiable:literal $thrown:literal) => {
         ClassRow {
             class: PlatformClass::$class,
             home: PlatformPackage::$package,
@@ -70,12 +70,12 @@ macro_rules! class {
             superclass: None,
             interfaces: &[$(PlatformClass::$interface),*],
             form: ClassForm::$form,
-            cells: &[$(CellKind::$cell),*],
+            cells: InstanceCells::$cells,
             instantiable: $instantiable,
             thrown: $thrown,
         }
     };
-    ($package:ident $class:ident $name:literal [$superclass:ident] [$($interface:ident)*] $form:ident [$($cell:ident)*] $instantiable:literal $thrown:literal) => {
+    ($package:ident $class:ident $name:literal [$superclass:ident] [$($interface:ident)*] $form:ident $cells:ident $instantiable:literal $thrown:literal) => {
         ClassRow {
             class: PlatformClass::$class,
             home: PlatformPackage::$package,
@@ -84,7 +84,7 @@ macro_rules! class {
             superclass: Some(PlatformClass::$superclass),
             interfaces: &[$(PlatformClass::$interface),*],
             form: ClassForm::$form,
-            cells: &[$(CellKind::$cell),*],
+            cells: InstanceCells::$cells,
             instantiable: $instantiable,
             thrown: $thrown,
         }
@@ -92,7 +92,7 @@ macro_rules! class {
 }
 
 macro_rules! optional_class {
-    ($package:ident $class:ident $name:literal [] [$($interface:ident)*] $form:ident [$($cell:ident)*] $instantiable:literal $thrown:literal) => {
+    ($package:ident $class:ident $name:literal [] [$($interface:ident)*] $form:ident $cells:ident $instantiable:literal $thrown:literal) => {
         ClassRow {
             class: PlatformClass::$class,
             home: PlatformPackage::$package,
@@ -101,12 +101,12 @@ macro_rules! optional_class {
             superclass: None,
             interfaces: &[$(PlatformClass::$interface),*],
             form: ClassForm::$form,
-            cells: &[$(CellKind::$cell),*],
+            cells: InstanceCells::$cells,
             instantiable: $instantiable,
             thrown: $thrown,
         }
     };
-    ($package:ident $class:ident $name:literal [$superclass:ident] [$($interface:ident)*] $form:ident [$($cell:ident)*] $instantiable:literal $thrown:literal) => {
+    ($package:ident $class:ident $name:literal [$superclass:ident] [$($interface:ident)*] $form:ident $cells:ident $instantiable:literal $thrown:literal) => {
         ClassRow {
             class: PlatformClass::$class,
             home: PlatformPackage::$package,
@@ -115,7 +115,7 @@ macro_rules! optional_class {
             superclass: Some(PlatformClass::$superclass),
             interfaces: &[$(PlatformClass::$interface),*],
             form: ClassForm::$form,
-            cells: &[$(CellKind::$cell),*],
+            cells: InstanceCells::$cells,
             instantiable: $instantiable,
             thrown: $thrown,
         }
@@ -212,72 +212,72 @@ pub(crate) static PACKAGES: [PackageRow; PACKAGE_COUNT] = [
 
 /// Every class, in the order of `PlatformClass`: package, class, name, superclass, interfaces, form, cells, whether code may make instances, whether the runtime environment throws one of its own.
 pub(crate) static CLASSES: [ClassRow; CLASS_COUNT] = [
-    class!(JavaLang Object b"Object" [] [] Object [] true false),
-    class!(JavaLang Throwable b"Throwable" [Object] [] Exception [] true false),
-    class!(JavaLang Exception b"Exception" [Throwable] [] Exception [] true false),
-    class!(JavaLang RuntimeException b"RuntimeException" [Exception] [] Exception [] true false),
-    class!(JavaLang IndexOutOfBoundsException b"IndexOutOfBoundsException" [RuntimeException] [] Exception [] true false),
-    class!(JavaLang ArithmeticException b"ArithmeticException" [RuntimeException] [] Exception [] true true),
-    class!(JavaLang ArrayIndexOutOfBoundsException b"ArrayIndexOutOfBoundsException" [IndexOutOfBoundsException] [] Exception [] true true),
-    class!(JavaLang ArrayStoreException b"ArrayStoreException" [RuntimeException] [] Exception [] true true),
-    class!(JavaLang ClassCastException b"ClassCastException" [RuntimeException] [] Exception [] true true),
-    class!(JavaLang NegativeArraySizeException b"NegativeArraySizeException" [RuntimeException] [] Exception [] true true),
-    class!(JavaLang NullPointerException b"NullPointerException" [RuntimeException] [] Exception [] true true),
-    class!(JavaLang SecurityException b"SecurityException" [RuntimeException] [] Exception [] true true),
-    class!(JavacardFramework Shareable b"Shareable" [] [] Interface [] false false),
-    class!(JavacardFramework Pin b"PIN" [] [] Interface [] false false),
-    class!(JavacardFramework Applet b"Applet" [Object] [] Object [] false false),
-    class!(JavacardFramework Apdu b"APDU" [Object] [] Object [] false false),
-    class!(JavacardFramework Aid b"AID" [Object] [] Object [Number Number Number Number Number Number Number Number Number] true false),
-    class!(JavacardFramework JcSystem b"JCSystem" [Object] [] Static [] false false),
-    class!(JavacardFramework Util b"Util" [Object] [] Static [] false false),
-    class!(JavacardFramework OwnerPin b"OwnerPIN" [Object] [Pin] Object [Number Number Number Number Reference] true false),
-    class!(JavacardFramework CardException b"CardException" [Exception] [] Exception [Number] true true),
-    class!(JavacardFramework CardRuntimeException b"CardRuntimeException" [RuntimeException] [] Exception [Number] true true),
-    class!(JavacardFramework IsoException b"ISOException" [CardRuntimeException] [] Exception [Number] true true),
-    class!(JavacardFramework PinException b"PINException" [CardRuntimeException] [] Exception [Number] true true),
-    class!(JavacardFramework SystemException b"SystemException" [CardRuntimeException] [] Exception [Number] true true),
-    class!(JavacardFramework TransactionException b"TransactionException" [CardRuntimeException] [] Exception [Number] true true),
-    class!(JavacardFramework ApduException b"APDUException" [CardRuntimeException] [] Exception [Number] true true),
-    class!(JavacardFramework UserException b"UserException" [CardException] [] Exception [Number] true true),
-    optional_class!(JavacardFramework Iso7816 b"ISO7816" [] [] Interface [] false false),
-    optional_class!(JavacardFramework MultiSelectable b"MultiSelectable" [] [] Interface [] false false),
-    optional_class!(JavacardFramework AppletEvent b"AppletEvent" [] [] Interface [] false false),
-    optional_class!(JavacardxApdu ExtendedLength b"ExtendedLength" [] [] Interface [] false false),
-    optional_class!(JavacardSecurity CryptoException b"CryptoException" [CardRuntimeException] [] Exception [Number] true true),
-    optional_class!(JavacardSecurity MessageDigest b"MessageDigest" [Object] [] Object [Number Reference] false false),
-    optional_class!(JavacardSecurity Checksum b"Checksum" [Object] [] Object [Number Reference] false false),
-    optional_class!(JavacardSecurity RandomData b"RandomData" [Object] [] Object [Number Reference] false false),
-    optional_class!(JavacardSecurity InitializedMessageDigest b"InitializedMessageDigest" [MessageDigest] [] Object [Number Reference] false false),
-    optional_class!(JavacardSecurity Key b"Key" [] [] Interface [] false false),
-    optional_class!(JavacardSecurity SecretKey b"SecretKey" [] [Key] Interface [] false false),
-    optional_class!(JavacardSecurity DesKey b"DESKey" [] [SecretKey Key] Interface [] false false),
-    optional_class!(JavacardSecurity AesKey b"AESKey" [] [SecretKey Key] Interface [] false false),
-    optional_class!(JavacardSecurity HmacKey b"HMACKey" [] [SecretKey Key] Interface [] false false),
-    optional_class!(JavacardSecurity KeyBuilder b"KeyBuilder" [Object] [] Static [] false false),
-    optional_class!(JavacardSecurity KeyObject b"KeyObject" [Object] [Key] Object [Number Reference] false false),
-    optional_class!(JavacardSecurity DesKeyObject b"DESKeyObject" [KeyObject] [DesKey SecretKey Key] Object [Number Reference] false false),
-    optional_class!(JavacardSecurity AesKeyObject b"AESKeyObject" [KeyObject] [AesKey SecretKey Key] Object [Number Reference] false false),
-    optional_class!(JavacardSecurity HmacKeyObject b"HMACKeyObject" [KeyObject] [HmacKey SecretKey Key] Object [Number Reference] false false),
-    optional_class!(JavacardSecurity Signature b"Signature" [Object] [] Object [Number Reference Reference Number Number Number Number Number Number Number Number Number] false false),
-    optional_class!(JavacardSecurity PrivateKey b"PrivateKey" [] [Key] Interface [] false false),
-    optional_class!(JavacardSecurity PublicKey b"PublicKey" [] [Key] Interface [] false false),
-    optional_class!(JavacardSecurity RsaPublicKey b"RSAPublicKey" [] [PublicKey Key] Interface [] false false),
-    optional_class!(JavacardSecurity RsaPrivateKey b"RSAPrivateKey" [] [PrivateKey Key] Interface [] false false),
-    optional_class!(JavacardSecurity RsaPrivateCrtKey b"RSAPrivateCrtKey" [] [PrivateKey Key] Interface [] false false),
-    optional_class!(JavacardSecurity EcKey b"ECKey" [] [] Interface [] false false),
-    optional_class!(JavacardSecurity EcPublicKey b"ECPublicKey" [] [PublicKey Key EcKey] Interface [] false false),
-    optional_class!(JavacardSecurity EcPrivateKey b"ECPrivateKey" [] [PrivateKey Key EcKey] Interface [] false false),
-    optional_class!(JavacardSecurity KeyPair b"KeyPair" [Object] [] Object [Number Reference Reference] true false),
-    optional_class!(JavacardSecurity KeyAgreement b"KeyAgreement" [Object] [] Object [Number Reference Reference] false false),
-    optional_class!(JavacardSecurity RsaKeyObject b"RSAKeyObject" [KeyObject] [Key] Object [Number Reference] false false),
-    optional_class!(JavacardSecurity RsaPublicKeyObject b"RSAPublicKeyObject" [RsaKeyObject] [RsaPublicKey PublicKey Key] Object [Number Reference] false false),
-    optional_class!(JavacardSecurity RsaPrivateKeyObject b"RSAPrivateKeyObject" [RsaKeyObject] [RsaPrivateKey PrivateKey Key] Object [Number Reference] false false),
-    optional_class!(JavacardSecurity RsaPrivateCrtKeyObject b"RSAPrivateCrtKeyObject" [KeyObject] [RsaPrivateCrtKey PrivateKey Key] Object [Number Reference] false false),
-    optional_class!(JavacardSecurity EcKeyObject b"ECKeyObject" [KeyObject] [EcKey Key] Object [Number Reference] false false),
-    optional_class!(JavacardSecurity EcPublicKeyObject b"ECPublicKeyObject" [EcKeyObject] [EcPublicKey PublicKey Key EcKey] Object [Number Reference] false false),
-    optional_class!(JavacardSecurity EcPrivateKeyObject b"ECPrivateKeyObject" [EcKeyObject] [EcPrivateKey PrivateKey Key EcKey] Object [Number Reference] false false),
-    optional_class!(JavacardxCrypto Cipher b"Cipher" [Object] [] Object [Number Reference Reference Number Number Number Number Number Number Number Number Number] false false),
+    class!(JavaLang Object b"Object" [] [] Object Empty true false),
+    class!(JavaLang Throwable b"Throwable" [Object] [] Exception Empty true false),
+    class!(JavaLang Exception b"Exception" [Throwable] [] Exception Empty true false),
+    class!(JavaLang RuntimeException b"RuntimeException" [Exception] [] Exception Empty true false),
+    class!(JavaLang IndexOutOfBoundsException b"IndexOutOfBoundsException" [RuntimeException] [] Exception Empty true false),
+    class!(JavaLang ArithmeticException b"ArithmeticException" [RuntimeException] [] Exception Empty true true),
+    class!(JavaLang ArrayIndexOutOfBoundsException b"ArrayIndexOutOfBoundsException" [IndexOutOfBoundsException] [] Exception Empty true true),
+    class!(JavaLang ArrayStoreException b"ArrayStoreException" [RuntimeException] [] Exception Empty true true),
+    class!(JavaLang ClassCastException b"ClassCastException" [RuntimeException] [] Exception Empty true true),
+    class!(JavaLang NegativeArraySizeException b"NegativeArraySizeException" [RuntimeException] [] Exception Empty true true),
+    class!(JavaLang NullPointerException b"NullPointerException" [RuntimeException] [] Exception Empty true true),
+    class!(JavaLang SecurityException b"SecurityException" [RuntimeException] [] Exception Empty true true),
+    class!(JavacardFramework Shareable b"Shareable" [] [] Interface Empty false false),
+    class!(JavacardFramework Pin b"PIN" [] [] Interface Empty false false),
+    class!(JavacardFramework Applet b"Applet" [Object] [] Object Empty false false),
+    class!(JavacardFramework Apdu b"APDU" [Object] [] Object Empty false false),
+    class!(JavacardFramework Aid b"AID" [Object] [] Object Aid true false),
+    class!(JavacardFramework JcSystem b"JCSystem" [Object] [] Static Empty false false),
+    class!(JavacardFramework Util b"Util" [Object] [] Static Empty false false),
+    class!(JavacardFramework OwnerPin b"OwnerPIN" [Object] [Pin] Object Pin true false),
+    class!(JavacardFramework CardException b"CardException" [Exception] [] Exception Reason true true),
+    class!(JavacardFramework CardRuntimeException b"CardRuntimeException" [RuntimeException] [] Exception Reason true true),
+    class!(JavacardFramework IsoException b"ISOException" [CardRuntimeException] [] Exception Reason true true),
+    class!(JavacardFramework PinException b"PINException" [CardRuntimeException] [] Exception Reason true true),
+    class!(JavacardFramework SystemException b"SystemException" [CardRuntimeException] [] Exception Reason true true),
+    class!(JavacardFramework TransactionException b"TransactionException" [CardRuntimeException] [] Exception Reason true true),
+    class!(JavacardFramework ApduException b"APDUException" [CardRuntimeException] [] Exception Reason true true),
+    class!(JavacardFramework UserException b"UserException" [CardException] [] Exception Reason true true),
+    optional_class!(JavacardFramework Iso7816 b"ISO7816" [] [] Interface Empty false false),
+    optional_class!(JavacardFramework MultiSelectable b"MultiSelectable" [] [] Interface Empty false false),
+    optional_class!(JavacardFramework AppletEvent b"AppletEvent" [] [] Interface Empty false false),
+    optional_class!(JavacardxApdu ExtendedLength b"ExtendedLength" [] [] Interface Empty false false),
+    optional_class!(JavacardSecurity CryptoException b"CryptoException" [CardRuntimeException] [] Exception Reason true true),
+    optional_class!(JavacardSecurity MessageDigest b"MessageDigest" [Object] [] Object Engine false false),
+    optional_class!(JavacardSecurity Checksum b"Checksum" [Object] [] Object Engine false false),
+    optional_class!(JavacardSecurity RandomData b"RandomData" [Object] [] Object Engine false false),
+    optional_class!(JavacardSecurity InitializedMessageDigest b"InitializedMessageDigest" [MessageDigest] [] Object Engine false false),
+    optional_class!(JavacardSecurity Key b"Key" [] [] Interface Empty false false),
+    optional_class!(JavacardSecurity SecretKey b"SecretKey" [] [Key] Interface Empty false false),
+    optional_class!(JavacardSecurity DesKey b"DESKey" [] [SecretKey Key] Interface Empty false false),
+    optional_class!(JavacardSecurity AesKey b"AESKey" [] [SecretKey Key] Interface Empty false false),
+    optional_class!(JavacardSecurity HmacKey b"HMACKey" [] [SecretKey Key] Interface Empty false false),
+    optional_class!(JavacardSecurity KeyBuilder b"KeyBuilder" [Object] [] Static Empty false false),
+    optional_class!(JavacardSecurity KeyObject b"KeyObject" [Object] [Key] Object Engine false false),
+    optional_class!(JavacardSecurity DesKeyObject b"DESKeyObject" [KeyObject] [DesKey SecretKey Key] Object Engine false false),
+    optional_class!(JavacardSecurity AesKeyObject b"AESKeyObject" [KeyObject] [AesKey SecretKey Key] Object Engine false false),
+    optional_class!(JavacardSecurity HmacKeyObject b"HMACKeyObject" [KeyObject] [HmacKey SecretKey Key] Object Engine false false),
+    optional_class!(JavacardSecurity Signature b"Signature" [Object] [] Object Cipher false false),
+    optional_class!(JavacardSecurity PrivateKey b"PrivateKey" [] [Key] Interface Empty false false),
+    optional_class!(JavacardSecurity PublicKey b"PublicKey" [] [Key] Interface Empty false false),
+    optional_class!(JavacardSecurity RsaPublicKey b"RSAPublicKey" [] [PublicKey Key] Interface Empty false false),
+    optional_class!(JavacardSecurity RsaPrivateKey b"RSAPrivateKey" [] [PrivateKey Key] Interface Empty false false),
+    optional_class!(JavacardSecurity RsaPrivateCrtKey b"RSAPrivateCrtKey" [] [PrivateKey Key] Interface Empty false false),
+    optional_class!(JavacardSecurity EcKey b"ECKey" [] [] Interface Empty false false),
+    optional_class!(JavacardSecurity EcPublicKey b"ECPublicKey" [] [PublicKey Key EcKey] Interface Empty false false),
+    optional_class!(JavacardSecurity EcPrivateKey b"ECPrivateKey" [] [PrivateKey Key EcKey] Interface Empty false false),
+    optional_class!(JavacardSecurity KeyPair b"KeyPair" [Object] [] Object Pair true false),
+    optional_class!(JavacardSecurity KeyAgreement b"KeyAgreement" [Object] [] Object Pair false false),
+    optional_class!(JavacardSecurity RsaKeyObject b"RSAKeyObject" [KeyObject] [Key] Object Engine false false),
+    optional_class!(JavacardSecurity RsaPublicKeyObject b"RSAPublicKeyObject" [RsaKeyObject] [RsaPublicKey PublicKey Key] Object Engine false false),
+    optional_class!(JavacardSecurity RsaPrivateKeyObject b"RSAPrivateKeyObject" [RsaKeyObject] [RsaPrivateKey PrivateKey Key] Object Engine false false),
+    optional_class!(JavacardSecurity RsaPrivateCrtKeyObject b"RSAPrivateCrtKeyObject" [KeyObject] [RsaPrivateCrtKey PrivateKey Key] Object Engine false false),
+    optional_class!(JavacardSecurity EcKeyObject b"ECKeyObject" [KeyObject] [EcKey Key] Object Engine false false),
+    optional_class!(JavacardSecurity EcPublicKeyObject b"ECPublicKeyObject" [EcKeyObject] [EcPublicKey PublicKey Key EcKey] Object Engine false false),
+    optional_class!(JavacardSecurity EcPrivateKeyObject b"ECPrivateKeyObject" [EcKeyObject] [EcPrivateKey PrivateKey Key EcKey] Object Engine false false),
+    optional_class!(JavacardxCrypto Cipher b"Cipher" [Object] [] Object Cipher false false),
 ];
 
 /// The methods of `java.lang`, in the order of `ObjectsMethod`: class, kind, method, name, parameters, what is returned, the receiver.
