@@ -110,24 +110,27 @@ impl Clone for LinkedPackage {
     ghost is_clone = { λ linked copy. copy ≡ linked };
 
     fn clone(&self) -> Result<LinkedPackage, AllocError> {
-        let alloc = *self.methods.allocator();
-        let name = self.name.clone()?;
-        let imports = Vec::from_slice(alloc, &self.imports)?;
-        let classes = Vec::from_clones(alloc, &self.classes)?;
-        let exports = Vec::from_clones(alloc, &self.exports)?;
-        let targets = Vec::from_slice(alloc, &self.targets)?;
-        let methods = Vec::from_slice(alloc, &self.methods)?;
-        let applets = Vec::from_clones(alloc, &self.applets)?;
-        Ok(LinkedPackage {
-            name,
-            imports,
-            classes,
-            exports,
-            targets,
-            methods,
-            image_size: self.image_size,
-            image_references: self.image_references,
-            applets,
-        })
+        let mut copy = LinkedPackage::empty(*self.methods.allocator());
+        copy.fill(self)?;
+        Ok(copy)
+    }
+}
+
+impl LinkedPackage {
+    // Copies all that is in another package into this one.
+    fn fill(&mut self, other: &LinkedPackage) -> Result<(), AllocError>
+        ensures { IfOk result (λ _. self.new ≡ other.now) }
+    {
+        let alloc = *other.methods.allocator();
+        self.name = other.name.clone()?;
+        self.imports = Vec::from_slice(alloc, &other.imports)?;
+        self.classes = Vec::from_clones(alloc, &other.classes)?;
+        self.exports = Vec::from_clones(alloc, &other.exports)?;
+        self.targets = Vec::from_slice(alloc, &other.targets)?;
+        self.methods = Vec::from_slice(alloc, &other.methods)?;
+        self.applets = Vec::from_clones(alloc, &other.applets)?;
+        self.image_size = other.image_size;
+        self.image_references = other.image_references;
+        Ok(())
     }
 }

@@ -1,12 +1,12 @@
 //! Lists of components, copied.
-ghost use Rattle.std.specs.Prelude.{◌≡◌, ◌≤◌, length, map, IfOk};
+ghost use Rattle.std.specs.Prelude.{◌≡◌, ◌≤◌, [], length, map, IfOk};
 ghost use Rattle.jc_cap.specs.ClassValues.{offsets_of};
 ghost use Rattle.jc_cap.specs.ComponentViews.{applet_info};
 ghost use Rattle.jc_cap.specs.Views.{package_contents};
 ghost use Rattle.jc_linker.specs.Outlines.{all_of, applet_of, components_of, export_of, outline_of, package_outline};
 
 use crate::class::{LinkedClass, TokenTable};
-use crate::package::{Applet, ExportedClass, LinkedPackage, PackageName};
+use crate::package::{Applet, ExportedClass, LinkedPackage};
 use jc_cap::applets::{AppletInfo, Applets};
 use jc_cap::classes::Classes;
 use jc_cap::contents::Contents;
@@ -15,38 +15,32 @@ use jc_cap::lists::U2List;
 use jc_transient::NO_CLASS;
 use std::alloc::{AllocError, Global};
 
-/// What stands in a package of these contents before its classes are linked and its entries resolved. Its Method component has this info.
-pub fn package_outline(
-    alloc: Global,
-    contents: &Contents<'_>,
-    methods: &[u8],
-    imports: Vec<u8>,
-) -> Result<LinkedPackage, AllocError>
-    requires { length contents.now.classes ≤ 256 }
-    ensures { IfOk result (λ made. made ≡ package_outline
-        (components_of methods.now (package_contents contents.now)) imports.items) }
-{
-    let name = contents.header.this_package;
-    let aid = bytes(alloc, name.aid)?;
-    let classes = outlines(alloc, &contents.classes)?;
-    let exports = all_exports(alloc, &contents.exports)?;
-    let methods = bytes(alloc, methods)?;
-    let applets = all_applets(alloc, &contents.applets)?;
-    Ok(LinkedPackage {
-        name: PackageName {
-            minor_version: name.minor_version,
-            major_version: name.major_version,
-            aid,
-        },
-        imports,
-        classes,
-        exports,
-        targets: Vec::new(alloc),
-        methods,
-        image_size: contents.statics.image_size,
-        image_references: contents.statics.reference_count,
-        applets,
-    })
+impl LinkedPackage {
+    /// Copies what these contents say into a package without targets, before its classes are linked and its entries resolved. Its Method
+    /// component has this info.
+    pub(crate) fn outline(
+        &mut self,
+        alloc: Global,
+        contents: &Contents<'_>,
+        methods: &[u8],
+    ) -> Result<(), AllocError>
+        requires few { length contents.now.classes ≤ 256 }
+        requires bare { self.old.targets ≡ [] }
+        ensures { IfOk result (λ _. self.new ≡ package_outline
+            (components_of methods.now (package_contents contents.now)) self.old.imports) }
+    {
+        let name = contents.header.this_package;
+        self.name.aid = bytes(alloc, name.aid)?;
+        self.name.minor_version = name.minor_version;
+        self.name.major_version = name.major_version;
+        self.classes = outlines(alloc, &contents.classes)?;
+        self.exports = all_exports(alloc, &contents.exports)?;
+        self.methods = bytes(alloc, methods)?;
+        self.applets = all_applets(alloc, &contents.applets)?;
+        self.image_size = contents.statics.image_size;
+        self.image_references = contents.statics.reference_count;
+        Ok(())
+    }
 }
 
 /// The numbers of a list, copied.

@@ -1,14 +1,13 @@
 //! Linking a package.
 ghost use Rattle.std.specs.Prelude.{◌≡◌, ◌<◌, ◌≤◌, ◌++◌, [], ◌∷◌, Err, IfOk, OnOk, length};
 ghost use Rattle.jc_cap.specs.Views.{package_contents};
-ghost use Rattle.jc_linker.specs.Answers.{Answers};
+ghost use Rattle.jc_linker.specs.Answers.{Answers, then_on};
 ghost use Rattle.jc_linker.specs.Imports.{AreFound};
-ghost use Rattle.jc_linker.specs.Linking.{classes_behind, link_result, targets_from, with_package};
+ghost use Rattle.jc_linker.specs.Linking.{classes_behind, if_complete, link_result, next_number, targets_from, with_package};
 ghost use Rattle.jc_linker.specs.Outlines.{components_of};
 
 use crate::class::LinkedClass;
 use crate::classes_linked::Linking;
-use crate::copies::package_outline;
 use crate::fault::LinkFault;
 use crate::linked::Linked;
 use crate::package::LinkedPackage;
@@ -24,7 +23,6 @@ use std::alloc::{AllocError, Global};
 ///
 /// The fault is that of the first import that fails; else the lowest index of an entry that does not resolve; else 65535
 /// where the Class component names what is not there. Memory is asked for once all imports are found.
-#[tactic(auto, unfolding(crate::specs::Linking::link_result))]
 pub fn link(
     alloc: Global,
     linked: &Linked,
@@ -38,18 +36,37 @@ pub fn link(
     ensures found { result ≡ Err LinkFault.NoMemory
         → AreFound linked.now contents.now.imports }
 {
-    let number = linked.count() as u8 + 1;
-    let imports = linked.import_numbers(alloc, &contents.imports)?;
-    let mut package = package_outline(alloc, contents, methods, imports)?;
-    let classes = linked_classes(alloc, linked, &package, number, &contents.classes)?;
-    package.classes = classes;
-    let scope = linked.scope_with(&package);
-    let targets = scope.targets(alloc, number, &contents.pool)?;
-    if !scope.are_complete(number, &package.classes) {
-        return Err(LinkFault::Unresolved(65535));
+    let mut package = LinkedPackage::empty(alloc);
+    match package.link(alloc, linked, contents, methods) {
+        Ok(()) => Ok(package),
+        Err(fault) => Err(fault),
     }
-    package.targets = targets;
-    Ok(package)
+}
+
+impl LinkedPackage {
+    // The same in a package without targets.
+    #[tactic(auto, unfolding(crate::specs::Linking::link_result))]
+    fn link(
+        &mut self,
+        alloc: Global,
+        linked: &Linked,
+        contents: &Contents<'_>,
+        methods: &[u8],
+    ) -> Result<(), LinkFault>
+        requires room { length linked.now.loaded < 32 }
+        requires few { length contents.now.classes ≤ 256 }
+        requires bare { self.old.targets ≡ [] }
+        ensures answer { Answers (λ _. self.new) result (link_result linked.now
+            (components_of methods.now (package_contents contents.now))) }
+        ensures found { result ≡ Err LinkFault.NoMemory
+            → AreFound linked.now contents.now.imports }
+    {
+        self.imports = linked.import_numbers(alloc, &contents.imports)?;
+        self.outline(alloc, contents, methods)?;
+        self.classes = linked_classes(alloc, linked, self, &contents.classes)?;
+        self.targets = all_targets(alloc, linked, self, &contents.pool)?;
+        Ok(())
+    }
 }
 
 // The classes of the records. Names are looked up in the package as it is outlined.
@@ -57,12 +74,12 @@ fn linked_classes(
     alloc: Global,
     linked: &Linked,
     outlined: &LinkedPackage,
-    number: u8,
     records: &Classes<'_>,
 ) -> Result<Vec<LinkedClass>, AllocError>
-    requires { length records.now ≤ 256 }
-    ensures classes { IfOk result (λ made. made.items
-        ≡ classes_behind linked.now (with_package linked.now outlined.now) number [] records.now) }
+    requires room { length linked.now.loaded < 32 }
+    requires few { length records.now ≤ 256 }
+    ensures classes { IfOk result (λ made. made.items ≡ classes_behind linked.now
+        (with_package linked.now outlined.now) (next_number linked.now) [] records.now) }
     ensures few { IfOk result (λ made. length made.items ≤ 256) }
 {
     let loaded = linked.scope();
@@ -70,10 +87,30 @@ fn linked_classes(
     let linking = Linking {
         loaded: &loaded,
         names: &names,
-        number,
+        number: linked.count() as u8 + 1,
     };
-    let classes = linking.classes(alloc, records)?;
-    Ok(classes)
+    linking.classes(alloc, records)
+}
+
+// What the entries of the package resolve to, if its classes are whole.
+fn all_targets(
+    alloc: Global,
+    linked: &Linked,
+    outlined: &LinkedPackage,
+    pool: &ConstantPool<'_>,
+) -> Result<Vec<Target>, LinkFault>
+    requires { length linked.now.loaded < 32 }
+    ensures { Answers (λ targets. record outlined.now { targets = targets.items }) result (then_on
+        (targets_from (with_package linked.now outlined.now) (next_number linked.now) 0 pool.now)
+        (if_complete linked.now outlined.now)) }
+{
+    let number = linked.count() as u8 + 1;
+    let scope = linked.scope_with(outlined);
+    let targets = scope.targets(alloc, number, pool)?;
+    if !scope.are_complete(number, &outlined.classes) {
+        return Err(LinkFault::Unresolved(65535));
+    }
+    Ok(targets)
 }
 
 impl Scope<'_> {

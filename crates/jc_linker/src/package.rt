@@ -1,11 +1,12 @@
 //! Loaded packages.
-ghost use Rattle.std.specs.Prelude.{◌≡◌, ◌<◌, ◌==◌, IfSome, find, option_copied, position};
+ghost use Rattle.std.specs.Prelude.{◌≡◌, ◌<◌, ◌==◌, [], IfSome, find, option_copied, position};
 ghost use Rattle.jc_linker.specs.Resolve.{class_index};
 ghost use Rattle.std.specs.Option.{option_map};
 ghost use Rattle.std.specs.Str.{bytes_eq};
 
 use crate::class::LinkedClass;
 use crate::target::Target;
+use std::alloc::Global;
 use std::marker::Model;
 
 /// The name of a package.
@@ -103,6 +104,27 @@ impl Model for LinkedPackage {
 }
 
 impl LinkedPackage {
+    /// A package with nothing in it.
+    pub(crate) fn empty(alloc: Global) -> LinkedPackage
+        ensures { result.targets ≡ [] }
+    {
+        LinkedPackage {
+            name: PackageName {
+                minor_version: 0,
+                major_version: 0,
+                aid: Vec::new(alloc),
+            },
+            imports: Vec::new(alloc),
+            classes: Vec::new(alloc),
+            exports: Vec::new(alloc),
+            targets: Vec::new(alloc),
+            methods: Vec::new(alloc),
+            image_size: 0,
+            image_references: 0,
+            applets: Vec::new(alloc),
+        }
+    }
+
     /// The number of the class whose record stands at an offset.
     #[tactic(auto, unfolding(crate::specs::Resolve::class_index))]
     pub fn class_index(&self, offset: u16) -> Option<u8>

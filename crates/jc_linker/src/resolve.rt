@@ -29,35 +29,51 @@ impl Scope<'_> {
             Entry::SuperMethod { class, token } => {
                 self.super_target(token, self.class_named(number, class)?)
             }
-            Entry::StaticField(StaticRef::Internal(offset)) => Some(Target::StaticField {
+            Entry::StaticField(place) => self.static_field_target(number, place),
+            Entry::StaticMethod(place) => self.static_method_target(number, place),
+        }
+    }
+
+    // What an entry for a static field resolves to.
+    #[tactic(auto, unfolding(crate::specs::Resolve::resolution))]
+    fn static_field_target(&self, number: u8, place: StaticRef) -> Option<Target>
+        ensures { result ≡ resolution self.now number (Entry.StaticField place) }
+    {
+        match place {
+            StaticRef::Internal(offset) => Some(Target::StaticField {
                 package_number: number,
                 offset,
             }),
-            Entry::StaticField(
-                StaticRef::External {
-                    package_token,
-                    class_token,
-                    token,
-                },
-            ) => self.foreign_field(
+            StaticRef::External {
+                package_token,
+                class_token,
+                token,
+            } => self.foreign_field(
                 class_token,
                 token,
                 self.import_by_token(number, package_token)?,
             ),
-            Entry::StaticMethod(StaticRef::Internal(offset)) => Some(Target::StaticMethod {
+        }
+    }
+
+    // What an entry for a static method resolves to.
+    #[tactic(auto, unfolding(crate::specs::Resolve::resolution))]
+    fn static_method_target(&self, number: u8, place: StaticRef) -> Option<Target>
+        ensures { result ≡ resolution self.now number (Entry.StaticMethod place) }
+    {
+        match place {
+            StaticRef::Internal(offset) => Some(Target::StaticMethod {
                 class: None,
                 method: Method::Code {
                     package_number: number,
                     offset,
                 },
             }),
-            Entry::StaticMethod(
-                StaticRef::External {
-                    package_token,
-                    class_token,
-                    token,
-                },
-            ) => self.foreign_method(
+            StaticRef::External {
+                package_token,
+                class_token,
+                token,
+            } => self.foreign_method(
                 class_token,
                 token,
                 self.import_by_token(number, package_token)?,
