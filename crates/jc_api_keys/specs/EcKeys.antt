@@ -65,10 +65,6 @@ is_on_curve EcPrivate = true
 abbrev pub curve_size : Key → Option ℕ
 curve_size key = option_and_then (λ k. if is_on_curve k then size_of k key.elements.count else None) (pair_key_named key.number)
 
-abbrev pub is_size : ℕ → Option ℕ → Bool
-is_size n (Some other) = other == n
-is_size n None = false
-
 -- the elements in which the domain parameters of a key of size n stand: the first ones
 abbrev pub domain_elements : Key → ℕ → Stretch
 domain_elements key n = record { array = key.elements.array; start = 0; count = bytes_of_parts n domain_parts }

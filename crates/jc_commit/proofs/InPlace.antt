@@ -92,12 +92,7 @@ front_capacity_word = record { below = omega arith; not_count = λ e. absurd (om
 pub front_journal : IsFront journal_address
 front_journal = record { below = omega arith; not_count = λ e. absurd (omega arith); unnamed = λ h. omega arith }
 
--- the words as they are, and those that a recovery leaves, describe the journal that the image has
-pub log-plain : (w : List ℕ) → IsGoodLog w → log_of (plain_of w) ≡ log_of w
-log-plain w good =
-    log-same w (plain_of w) (plain_front w version_address good front_version) (plain_front w capacity_address good front_capacity_word)
-    (plain_front w journal_address good front_journal)
-
+-- the words that a recovery leaves describe the journal that the image has
 pub log-recovered : (w : List ℕ) → IsGoodLog w → log_of (recovered_of w) ≡ log_of w
 log-recovered w good =
     log-same w (recovered_of w) (recovered_front w version_address good front_version) (recovered_front w capacity_address good front_capacity_word)

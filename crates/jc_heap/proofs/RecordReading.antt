@@ -263,16 +263,6 @@ view_package j v n k is laid h =
     ap (λ u. get_or (u.now.packages) k 0) (sym is) ∙ package_read j.plain k (omega (arith, laid.based)) laid.fits
     (omega (arith, h, view_packages j v n is laid))
 
--- what is named is what the cut names
-names_cut : (ws : List ℕ) (q : ℕ) → has_entry (records_from (sizes (package_addresses (image ws))) 0 (base (image ws)) (drop (base (image ws)) (image ws))) q
-    ≡ is_allocated (heap_of ws) q
-unfolding read_image is_allocated
-names_cut ws q = sym (has-map (item (package_addresses (image ws))) (records (image ws)) q)
-
-pub view_names : (j : State) (v : HeapView) (n q : ℕ) → heap_view j n ≡ v → has_entry
-    (records_from (sizes (package_addresses (image j.plain))) 0 (base (image j.plain)) (drop (base (image j.plain)) (image j.plain))) q ≡ is_allocated v.now q
-view_names j v n q is = names_cut j.plain q ∙ ap (λ u. is_allocated (u.now) q) is
-
 is_package-at : (ps : List ℕ) (k : ℕ) → k < length ps → is_package ps (get_or ps k 0) ≡ true
 is_package-at [] k h = absurd (omega arith)
 is_package-at (p ∷ ps) zero h = ap (λ b. b || is_package ps p) (eq-eqb p p refl)

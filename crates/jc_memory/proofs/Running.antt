@@ -1,8 +1,8 @@
 -- Loops over runs of cells.
-use Rattle.std.proofs.Common.{◌≡◌, ℕ, Some, zero, suc, pos, replicate, ◌+◌, ◌<◌, ◌≤◌, List, [], ◌∷◌, ◌++◌, set, take, drop, length, map, get_or, refl, sym, ◌∙◌}
+use Rattle.std.proofs.Common.{◌≡◌, ℕ, Some, zero, suc, pos, replicate, ◌+◌, ◌<◌, ◌≤◌, List, [], ◌∷◌, ◌++◌, set, take, drop, length, map, refl, sym, ◌∙◌}
 use Rattle.std.proofs.Common.{◌%◌, ap, arith, ext_get_or}
 use Rattle.std.specs.List.{range_with_len}
-use Rattle.std.proofs.lemmas.List.{take_more_set, take_more, length-append, length-map, map-append, take_all}
+use Rattle.std.proofs.lemmas.List.{take_more_set, length-append, length-map, map-append, take_all}
 use Rattle.std.proofs.lemmas.List.FromFn.{map-range_with_len_more, length-map-range_with_len, get_or-map-range_with_len}
 use Rattle.std.proofs.lemmas.List.Edits.{paste_all, paste-paste}
 use lib.Seq.{paste}
@@ -15,10 +15,6 @@ use Rattle.jc_transient.specs.State.{RamState, HasSizes, area, area_size, with_a
 use Rattle.jc_heap.specs.Heap.{facts}
 use Rattle.jc_memory.specs.Cells.{word_of, word_in, word_at, bytes_at, words_at}
 use Rattle.jc_memory.specs.State.{MemoryState, ram_after_set}
-
-pub widen_more : (ws bs : List ℕ) (k v : ℕ) → k < length ws → k < length bs → v ≡ get_or bs k 0 → take k ws ≡ take k bs
-    → take (k + 1) (set ws k v) ≡ take (k + 1) bs
-widen_more ws bs k v here there is e = take_more_set ws k v here ∙ ap (λ l. l ++ v ∷ []) e ∙ ap (λ x. take k bs ++ x ∷ []) is ∙ sym (take_more bs k 0 there)
 
 pub read_more : (f : ℕ → ℕ) (out : List ℕ) (i k v : ℕ) → k < length out → v ≡ f (i + k) → take k out ≡ map f (range_with_len i k)
     → take (k + 1) (set out k v) ≡ map f (range_with_len i (k + 1))

@@ -1,5 +1,5 @@
 -- Methods of the platform spare what is outside reach and is not what they are called on.
-use Rattle.std.specs.Prelude.{ℕ, ◌≡◌, ◌≤◌, true, List, length, Some}
+use Rattle.std.specs.Prelude.{ℕ, ◌≡◌, true, List, Some}
 use Rattle.jc_frames.specs.declared.cell.Cell.{Cell}
 use Rattle.jc_heap.specs.Heap.{facts}
 use Rattle.jc_memory.specs.State.{MemoryState}
@@ -13,10 +13,6 @@ use Rattle.jc_world.specs.Objects.{reference_argument}
 use Rattle.jc_interp.specs.Natives.{native_call}
 use Rattle.law_code.specs.Reach.{IsOutside}
 use Rattle.law_code.specs.IsolationLaws.SparingEffects.{LeavesObject}
-
--- an object is not the one that a method is called on
-abbrev pub IsNotCalled : ℕ → List Cell → Type 0
-IsNotCalled q args = (own : ℕ) → reference_argument args 0 ≡ Some own → own ≡ q → ⊥
 
 -- the object that a method is called on is within the reach of the code that runs
 abbrev pub ReachesCalled : List Cell → Packages → MemoryState → Type 0
