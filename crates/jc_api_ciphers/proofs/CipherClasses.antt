@@ -61,6 +61,7 @@ fits shorts own mode bytes =
 
 fits_key : (needs : Requirements) (own : KeyedEngine) (args : List Cell) (p : Packages) (m : MemoryState) (a : FieldsAnswer)
     → key_init class.Cipher needs own args p m ≡ Ok a → FitsFields a
+unfolding key_init
 fits_key needs own args p m a is =
     let key = both_ok (taken_key needs args p m) _ a is in
     let mode = both_ok (taken_mode args) _ a key.2 in
@@ -69,6 +70,7 @@ fits_key needs own args p m a is =
 
 fits_vector : (needs : Requirements) (own : KeyedEngine) (args : List Cell) (p : Packages) (m : MemoryState) (a : FieldsAnswer)
     → vector_init class.Cipher needs own args p m ≡ Ok a → FitsFields a
+unfolding vector_init
 fits_vector needs own args p m a is =
     let key = both_ok (taken_key needs args p m) _ a is in
     let mode = both_ok (taken_mode args) _ a key.2 in

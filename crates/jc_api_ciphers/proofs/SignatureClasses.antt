@@ -67,6 +67,7 @@ fits shorts own mode bytes =
 
 fits_key : (needs : Requirements) (own : KeyedEngine) (args : List Cell) (p : Packages) (m : MemoryState) (a : FieldsAnswer)
     → key_init class.Signature needs own args p m ≡ Ok a → FitsFields a
+unfolding key_init
 fits_key needs own args p m a is =
     let key = both_ok (taken_key needs args p m) _ a is in
     let mode = both_ok (taken_mode args) _ a key.2 in
@@ -75,6 +76,7 @@ fits_key needs own args p m a is =
 
 fits_vector : (needs : Requirements) (own : KeyedEngine) (args : List Cell) (p : Packages) (m : MemoryState) (a : FieldsAnswer)
     → vector_init class.Signature needs own args p m ≡ Ok a → FitsFields a
+unfolding vector_init
 fits_vector needs own args p m a is =
     let key = both_ok (taken_key needs args p m) _ a is in
     let mode = both_ok (taken_mode args) _ a key.2 in

@@ -105,7 +105,7 @@ takes_vector needs n = not (n == 0) && n == needs.vector
 abbrev pub taken_if : Requirements → Key → Result Key FrameExit
 taken_if needs key = if takes_type needs.keys (key_type_named key.number) then Ok key else Err (Throw illegal_value)
 
-abbrev pub taken_key : Requirements → List Cell → Packages → MemoryState → Result Key FrameExit
+unfoldable pub taken_key : Requirements → List Cell → Packages → MemoryState → Result Key FrameExit
 taken_key needs args p m = and_then (key_argument 1 args p m) (taken_if needs)
 
 -- the mode after it
@@ -116,7 +116,7 @@ taken_mode args = and_then (some_or_fault (short_argument args 2)) (λ mode. if 
 abbrev pub taken_if_long : Requirements → Stretch → Result Stretch FrameExit
 taken_if_long needs e = if takes_vector needs e.count then Ok e else Err (Throw illegal_value)
 
-abbrev pub taken_vector : Requirements → List Cell → Packages → MemoryState → Result Stretch FrameExit
+unfoldable pub taken_vector : Requirements → List Cell → Packages → MemoryState → Result Stretch FrameExit
 taken_vector needs args p m = and_then (counted_of 3 args p m) (taken_if_long needs)
 
 -- the words of the cells of a vector: its bytes, and zeros after them
@@ -133,17 +133,17 @@ initializes class shorts own mode bytes = sets_fields class key_cell (values_giv
 
 -- init of an object of a class by a key and a mode: the key is one that the algorithm takes, then the mode one of the two, then the key is set.
 -- The vector is zeros
-abbrev pub key_init : PlatformClass → Requirements → KeyedEngine → List Cell → Packages → MemoryState → Result FieldsAnswer FrameExit
+unfoldable pub key_init : PlatformClass → Requirements → KeyedEngine → List Cell → Packages → MemoryState → Result FieldsAnswer FrameExit
 key_init class needs own args p m = and_then (taken_key needs args p m) (λ key. and_then (taken_mode args) (λ mode.
     and_then (key_elements m key) (λ set. Ok (initializes class needs.state own mode []))))
 
 -- and with a vector, of which the algorithm requires its length
-abbrev pub vector_init : PlatformClass → Requirements → KeyedEngine → List Cell → Packages → MemoryState → Result FieldsAnswer FrameExit
+unfoldable pub vector_init : PlatformClass → Requirements → KeyedEngine → List Cell → Packages → MemoryState → Result FieldsAnswer FrameExit
 vector_init class needs own args p m = and_then (taken_key needs args p m) (λ key. and_then (taken_mode args) (λ mode.
     and_then (taken_vector needs args p m) (λ e. and_then (key_elements m key) (λ set. Ok (initializes class needs.state own mode (bytes_in m e))))))
 
 -- ---- calls after init
 
 -- the key that an engine has kept: of a type that the algorithm takes, or a code fault; one that is not set throws
-abbrev pub kept_key : Requirements → KeyedEngine → Packages → MemoryState → Result Stretch FrameExit
+unfoldable pub kept_key : Requirements → KeyedEngine → Packages → MemoryState → Result Stretch FrameExit
 kept_key needs own p m = and_then (key_at p m own.key) (λ key. and_then (check_or_fault (takes_type needs.keys (key_type_named key.number))) (λ u. key_elements m key))

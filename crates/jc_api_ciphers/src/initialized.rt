@@ -182,6 +182,7 @@ fn takes_vector(needs: Requirements, count: u16) -> bool
 }
 
 // The key after the receiver, of a type that the algorithm takes.
+#[tactic(auto, unfolding(crate::specs::Initialized::taken_key))]
 fn taken_key<S: WordStore>(
     needs: Requirements,
     args: &[Cell],
@@ -215,6 +216,7 @@ pub(crate) fn taken_mode(args: &[Cell]) -> Result<i16, FrameExit>
 }
 
 // The elements after it that are the vector.
+#[tactic(auto, unfolding(crate::specs::Initialized::taken_vector))]
 fn taken_vector<S: WordStore>(
     needs: Requirements,
     args: &[Cell],
@@ -286,27 +288,23 @@ pub(crate) fn set_up<S: WordStore>(
         own.now mode setup.entry.vector.now)) args.now linked.now memory.old)
         memory.old (after_call result memory.new) }
 {
-    let Setup {
-        class,
-        shorts,
-        vector,
-    } = setup;
     let mut words = [0; VECTOR_CELLS];
-    put_vector(vector, &mut words);
+    put_vector(setup.vector, &mut words);
     let mut values = [FieldValue::Word(0); MOST_FIELDS];
     put_values(mode, &words, &mut values);
     let zeros = [0; MOST_SHORTS];
     let fields = Fields {
-        class,
+        class: setup.class,
         start: KEY_CELL,
         values: &values,
         array: own.array,
-        words: &zeros[..shorts as usize],
+        words: &zeros[..setup.shorts as usize],
     };
     initialize(fields, args, memory, linked)
 }
 
 /// Initializes an object of a class, of which this is what its cells say, by a key and a mode; its vector is zeros.
+#[tactic(auto, unfolding(crate::specs::Initialized::key_init))]
 pub(crate) fn init<S: WordStore>(
     class: PlatformClass,
     needs: Requirements,
@@ -332,6 +330,7 @@ pub(crate) fn init<S: WordStore>(
 }
 
 /// The same with a vector.
+#[tactic(auto, unfolding(crate::specs::Initialized::vector_init))]
 pub(crate) fn init_with_vector<S: WordStore>(
     class: PlatformClass,
     needs: Requirements,
@@ -375,6 +374,7 @@ pub(crate) fn check(holds: bool) -> Result<(), FrameExit>
 
 /// The elements that are the key which an engine has kept. One of a type that the algorithm does not take is a code fault, and one that is not set
 /// throws UNINITIALIZED_KEY.
+#[tactic(auto, unfolding(crate::specs::Initialized::kept_key))]
 pub(crate) fn kept_key<S: WordStore>(
     needs: Requirements,
     own: &KeyedEngine,

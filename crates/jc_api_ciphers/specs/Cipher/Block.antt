@@ -78,7 +78,7 @@ direction_of mode = if int_eq mode (pos 1) then Ok Decrypt else if int_eq mode (
 abbrev pub key_if_long : BlockAlgorithm → Stretch → Result Stretch FrameExit
 key_if_long a key = and_then (check_or_fault (has_key_length a key.count)) (λ u. Ok key)
 
-abbrev pub cipher_key : CipherAlgorithm → KeyedEngine → Packages → MemoryState → Result Stretch FrameExit
+unfoldable pub cipher_key : CipherAlgorithm → KeyedEngine → Packages → MemoryState → Result Stretch FrameExit
 cipher_key a own p m = and_then (kept_key (cipher_requirements a) own p m) (key_if_long a.block)
 
 -- these cells of its state, of its vector and of its key are there
@@ -93,7 +93,7 @@ pub record IsRunning (m : MemoryState) (own : RunningCipher) : Type 0 where
 abbrev pub conversion_of : CipherAlgorithm → Direction → Conversion
 conversion_of a direction = record { algorithm = a.block; chaining = a.chaining; direction = direction; padding = a.padding }
 
-abbrev pub running_in : KeyedEngine → Packages → MemoryState → CipherAlgorithm → Result RunningCipher FrameExit
+unfoldable pub running_in : KeyedEngine → Packages → MemoryState → CipherAlgorithm → Result RunningCipher FrameExit
 running_in own p m a = and_then (state_at p m own.array 0 (cipher_shorts a.block)) (λ state. and_then (direction_of own.mode) (λ direction.
     and_then (cipher_key a own p m) (λ key. Ok (record { own = own.own; conversion = conversion_of a direction; key = key; state = state }))))
 

@@ -77,11 +77,11 @@ key_or exit None = Err exit
 key_or exit (Some key) = Ok key
 
 -- the key after the receiver, of a kind that is taken in a mode
-abbrev pub taken_rsa_key : RsaPadding → ℤ → List Cell → Packages → MemoryState → Result RsaKey FrameExit
+unfoldable pub taken_rsa_key : RsaPadding → ℤ → List Cell → Packages → MemoryState → Result RsaKey FrameExit
 taken_rsa_key padding mode args p m = and_then (key_argument 1 args p m) (λ key. key_or (Throw illegal_value) (rsa_key_of padding mode key))
 
 -- and the key that an object has kept, or a code fault
-abbrev pub kept_rsa_key : RsaPadding → KeyedEngine → Packages → MemoryState → Result RsaKey FrameExit
+unfoldable pub kept_rsa_key : RsaPadding → KeyedEngine → Packages → MemoryState → Result RsaKey FrameExit
 kept_rsa_key padding own p m = and_then (key_at p m own.key) (λ key. key_or (End Fault) (rsa_key_of padding own.mode key))
 
 -- ---- init

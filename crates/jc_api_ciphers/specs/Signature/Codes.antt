@@ -91,7 +91,7 @@ takes_length (Hmac h) n = true
 abbrev pub length_or_illegal : SignatureAlgorithm → Key → Result (Unit {0}) FrameExit
 length_or_illegal a key = if takes_length a (capacity key) then Ok tt else Err (Throw illegal_value)
 
-abbrev pub key_of_length : SignatureAlgorithm → List Cell → Packages → MemoryState → Result (Unit {0}) FrameExit
+unfoldable pub key_of_length : SignatureAlgorithm → List Cell → Packages → MemoryState → Result (Unit {0}) FrameExit
 key_of_length a args p m = and_then (key_argument 1 args p m) (length_or_illegal a)
 
 -- init by a key and a mode, and with a vector: all of it is set, as one change, and nothing came
@@ -112,7 +112,7 @@ FitsKey (Hmac h) n = Unit {0}
 abbrev pub key_if_long : SignatureAlgorithm → Stretch → Result Stretch FrameExit
 key_if_long a key = and_then (check_or_fault (takes_length a key.count)) (λ u. Ok key)
 
-abbrev pub signature_key : SignatureAlgorithm → KeyedEngine → Packages → MemoryState → Result Stretch FrameExit
+unfoldable pub signature_key : SignatureAlgorithm → KeyedEngine → Packages → MemoryState → Result Stretch FrameExit
 signature_key a own p m = and_then (kept_key (signature_requirements a) own p m) (key_if_long a)
 
 -- these cells of its state, of its vector and of its key are there
@@ -125,7 +125,7 @@ pub record IsRunning (m : MemoryState) (own : RunningSignature) : Type 0 where
   pub long : FitsKey own.algorithm own.key.count
 
 -- the message under a receiver: first the cells of its state, then whether it is initialized for the purpose, then its key
-abbrev pub running_in : Purpose → KeyedEngine → Packages → MemoryState → SignatureAlgorithm → Result RunningSignature FrameExit
+unfoldable pub running_in : Purpose → KeyedEngine → Packages → MemoryState → SignatureAlgorithm → Result RunningSignature FrameExit
 running_in purpose own p m a = and_then (state_at p m own.array 0 (signature_shorts a)) (λ state. and_then (initialized_for purpose own.mode) (λ u.
     and_then (signature_key a own p m) (λ key. Ok (record { own = own.own; algorithm = a; key = key; state = state }))))
 

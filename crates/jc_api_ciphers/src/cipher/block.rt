@@ -107,6 +107,7 @@ fn direction_of(mode: i16) -> Result<Direction, FrameExit>
 }
 
 // The key that an object has kept, of a length of its block algorithm.
+#[tactic(auto, unfolding(crate::specs::Cipher::Block::cipher_key))]
 fn cipher_key<S: WordStore>(
     algorithm: CipherAlgorithm,
     own: &KeyedEngine,
@@ -125,6 +126,7 @@ fn cipher_key<S: WordStore>(
 }
 
 // The message under an object with a cipher.
+#[tactic(auto, unfolding(crate::specs::Cipher::Block::running_in))]
 fn running_in<S: WordStore>(
     own: &KeyedEngine,
     algorithm: CipherAlgorithm,

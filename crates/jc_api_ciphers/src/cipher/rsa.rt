@@ -111,16 +111,13 @@ fn rsa_key_of(padding: RsaPadding, mode: i16, key: Key) -> Option<RsaKey>
     ensures same { IfSome result (λ k. k.key.key ≡ key) }
     ensures few { IfSome result (λ k. k.key.size ≤ MOST_SIZE) }
 {
-    let Some(sized) = sized_key(key) else {
-        return None;
-    };
-    match way_of(padding, mode, sized.kind) {
-        Some(way) => Some(RsaKey { key: sized, way }),
-        None => None,
-    }
+    let sized = sized_key(key)?;
+    let way = way_of(padding, mode, sized.kind)?;
+    Some(RsaKey { key: sized, way })
 }
 
 // The key after the receiver, of a kind that is taken in a mode, or ILLEGAL_VALUE is thrown.
+#[tactic(auto, unfolding(crate::specs::Cipher::Rsa::taken_rsa_key))]
 fn taken_rsa_key<S: WordStore>(
     padding: RsaPadding,
     mode: i16,
@@ -141,6 +138,7 @@ fn taken_rsa_key<S: WordStore>(
 }
 
 // The key that an object has kept. One that is not taken in its mode is a code fault.
+#[tactic(auto, unfolding(crate::specs::Cipher::Rsa::kept_rsa_key))]
 fn kept_rsa_key<S: WordStore>(
     padding: RsaPadding,
     own: &KeyedEngine,

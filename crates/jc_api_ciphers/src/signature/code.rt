@@ -144,6 +144,7 @@ fn takes_length(algorithm: SignatureAlgorithm, count: u16) -> bool
 }
 
 // The key after the receiver has a length that the algorithm takes, or ILLEGAL_VALUE is thrown.
+#[tactic(auto, unfolding(crate::specs::Signature::Codes::key_of_length))]
 fn key_of_length<S: WordStore>(
     algorithm: SignatureAlgorithm,
     args: &[Cell],
@@ -163,6 +164,7 @@ fn key_of_length<S: WordStore>(
 }
 
 // The key that an object has kept, of a length that the algorithm takes.
+#[tactic(auto, unfolding(crate::specs::Signature::Codes::signature_key))]
 fn signature_key<S: WordStore>(
     algorithm: SignatureAlgorithm,
     own: &KeyedEngine,
@@ -182,6 +184,7 @@ fn signature_key<S: WordStore>(
 }
 
 // The message under an object with a signature.
+#[tactic(auto, unfolding(crate::specs::Signature::Codes::running_in))]
 fn running_in<S: WordStore>(
     purpose: Purpose,
     own: &KeyedEngine,

@@ -75,11 +75,11 @@ abbrev pub taken_or : FrameExit → PairSignature → ℤ → Option SizedKey �
 taken_or exit a mode None = Err exit
 taken_or exit a mode (Some key) = if takes_key a mode key then Ok key else Err exit
 
-abbrev pub taken_pair_key : PairSignature → ℤ → List Cell → Packages → MemoryState → Result SizedKey FrameExit
+unfoldable pub taken_pair_key : PairSignature → ℤ → List Cell → Packages → MemoryState → Result SizedKey FrameExit
 taken_pair_key a mode args p m = and_then (key_argument 1 args p m) (λ key. taken_or (Throw illegal_value) a mode (sized_key key))
 
 -- and the key that an object has kept, or a code fault
-abbrev pub kept_pair_key : PairSignature → KeyedEngine → Packages → MemoryState → Result SizedKey FrameExit
+unfoldable pub kept_pair_key : PairSignature → KeyedEngine → Packages → MemoryState → Result SizedKey FrameExit
 kept_pair_key a own p m = and_then (key_at p m own.key) (λ key. taken_or (End Fault) a own.mode (sized_key key))
 
 -- ---- their parts, of which one that is not set throws
@@ -112,5 +112,5 @@ parts_of_kind m key RsaCrtPrivate = primes_parts m key
 parts_of_kind m key EcPublic = ec_parts m key part.W
 parts_of_kind m key EcPrivate = ec_parts m key part.S
 
-abbrev pub pair_parts : MemoryState → SizedKey → Result Parts FrameExit
+unfoldable pub pair_parts : MemoryState → SizedKey → Result Parts FrameExit
 pair_parts m key = parts_of_kind m key key.kind

@@ -6,8 +6,7 @@ ghost use Rattle.jc_public_keys.specs.Ecdsa.{ecdsa_signature, is_ecdsa_signature
 ghost use Rattle.jc_api_ciphers.specs.Signature.Pair.Ecdsa.{IsShortCurve, curve_of, ecdsa_of, is_ecdsa_of, is_short_curve};
 ghost use Rattle.jc_api_ciphers.specs.Signature.Pair.Parts.{AreEcParts};
 
-use crate::signature::pair::parts::EcParts;
-use jc_api_keys::receivers::read;
+use crate::signature::pair::parts::{EcParts, read_part};
 use jc_curves::curves::{MOST_BYTES, Parameters};
 use jc_memory::Memory;
 use jc_public_keys::ecdsa::{MOST_SIGNATURE, is_signature, put_signature};
@@ -47,23 +46,17 @@ fn put_short<S: WordStore>(
         ≡ ecdsa_signature (curve_of memory.now key.now) (bytes_in memory.now key.now.key) digest.now seed.now }
 {
     let mut field_bytes = [0; MOST_BYTES];
-    let field = &mut field_bytes[..key.field.count as usize];
-    read(key.field, memory, field);
+    let field = read_part(key.field, memory, &mut field_bytes);
     let mut a_bytes = [0; MOST_BYTES];
-    let a = &mut a_bytes[..key.a.count as usize];
-    read(key.a, memory, a);
+    let a = read_part(key.a, memory, &mut a_bytes);
     let mut b_bytes = [0; MOST_BYTES];
-    let b = &mut b_bytes[..key.b.count as usize];
-    read(key.b, memory, b);
+    let b = read_part(key.b, memory, &mut b_bytes);
     let mut generator_bytes = [0; MOST_ENCODING];
-    let generator = &mut generator_bytes[..key.base.count as usize];
-    read(key.base, memory, generator);
+    let generator = read_part(key.base, memory, &mut generator_bytes);
     let mut order_bytes = [0; MOST_BYTES];
-    let order = &mut order_bytes[..key.order.count as usize];
-    read(key.order, memory, order);
+    let order = read_part(key.order, memory, &mut order_bytes);
     let mut private_bytes = [0; MOST_BYTES];
-    let private = &mut private_bytes[..key.key.count as usize];
-    read(key.key, memory, private);
+    let private = read_part(key.key, memory, &mut private_bytes);
     let parameters = Parameters {
         field,
         a,
@@ -115,26 +108,19 @@ fn is_short_signature<S: WordStore>(
         ≡ is_ecdsa_signature (curve_of memory.now key.now) (bytes_in memory.now key.now.key) digest.now (bytes_in memory.now given) }
 {
     let mut field_bytes = [0; MOST_BYTES];
-    let field = &mut field_bytes[..key.field.count as usize];
-    read(key.field, memory, field);
+    let field = read_part(key.field, memory, &mut field_bytes);
     let mut a_bytes = [0; MOST_BYTES];
-    let a = &mut a_bytes[..key.a.count as usize];
-    read(key.a, memory, a);
+    let a = read_part(key.a, memory, &mut a_bytes);
     let mut b_bytes = [0; MOST_BYTES];
-    let b = &mut b_bytes[..key.b.count as usize];
-    read(key.b, memory, b);
+    let b = read_part(key.b, memory, &mut b_bytes);
     let mut generator_bytes = [0; MOST_ENCODING];
-    let generator = &mut generator_bytes[..key.base.count as usize];
-    read(key.base, memory, generator);
+    let generator = read_part(key.base, memory, &mut generator_bytes);
     let mut order_bytes = [0; MOST_BYTES];
-    let order = &mut order_bytes[..key.order.count as usize];
-    read(key.order, memory, order);
+    let order = read_part(key.order, memory, &mut order_bytes);
     let mut public_bytes = [0; MOST_ENCODING];
-    let public = &mut public_bytes[..key.key.count as usize];
-    read(key.key, memory, public);
+    let public = read_part(key.key, memory, &mut public_bytes);
     let mut signature_bytes = [0; MOST_SIGNATURE];
-    let signature = &mut signature_bytes[..given.count as usize];
-    read(given, memory, signature);
+    let signature = read_part(given, memory, &mut signature_bytes);
     let parameters = Parameters {
         field,
         a,

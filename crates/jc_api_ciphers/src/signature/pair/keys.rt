@@ -2,7 +2,9 @@
 ghost use Rattle.std.specs.Prelude.{◌≡◌, ◌≤◌, false, true, IfOk, IfSome};
 ghost use Rattle.jc_api.specs.Exits.{plainly};
 ghost use Rattle.jc_api_keys.specs.KeyObjects.Contents.{IsKey};
+ghost use Rattle.jc_api_keys.specs.KeyObjects.Parts.{key_part};
 ghost use Rattle.jc_api_ciphers.specs.Signature.Pair.Keys.{ec_parts, ecdsa_takes, kept_pair_key, pair_parts, primes_parts, rsa_parts, rsa_takes, sized_key, takes_key, takes_size, taken_pair_key};
+ghost use Rattle.jc_api_ciphers.specs.Signature.Pair.Parts.{IsPart};
 ghost use Rattle.jc_api_ciphers.specs.Signature.Pair.Signing.{AreParts, HasSize, IsLongEnough};
 
 use crate::initialized::{KeyedEngine, check};
@@ -19,6 +21,7 @@ use jc_linker::linked::Linked;
 use jc_memory::Memory;
 use jc_public_keys::rsa_signatures::least_modulus;
 use jc_words::WordStore;
+use jc_world::Stretch;
 
 // The fewest bytes of a modulus for an encoding by ISO/IEC 9796-2 of a digest by SHA-1.
 const LEAST_ISO_MODULUS: usize = 22;
@@ -38,12 +41,8 @@ pub(crate) fn sized_key(key: Key) -> Option<SizedKey>
     ensures same { IfSome result (λ s. s.key ≡ key) }
     ensures few { IfSome result (λ s. s.size ≤ MOST_SIZE) }
 {
-    let Some(kind) = pair_key_named(key.number) else {
-        return None;
-    };
-    let Some(size) = size_of(kind, key.elements.count) else {
-        return None;
-    };
+    let kind = pair_key_named(key.number)?;
+    let size = size_of(kind, key.elements.count)?;
     Some(SizedKey { key, kind, size })
 }
 
@@ -96,6 +95,7 @@ fn takes_key(algorithm: PairSignature, mode: i16, key: &SizedKey) -> bool
 }
 
 /// The key after the receiver, of a kind and a size that the signature takes in a mode, or ILLEGAL_VALUE is thrown.
+#[tactic(auto, unfolding(crate::specs::Signature::Pair::Keys::taken_pair_key))]
 pub(crate) fn taken_pair_key<S: WordStore>(
     algorithm: PairSignature,
     mode: i16,
@@ -116,6 +116,7 @@ pub(crate) fn taken_pair_key<S: WordStore>(
 }
 
 /// The key that an object has kept. One that the signature does not take in its mode is a code fault.
+#[tactic(auto, unfolding(crate::specs::Signature::Pair::Keys::kept_pair_key))]
 pub(crate) fn kept_pair_key<S: WordStore>(
     algorithm: PairSignature,
     own: &KeyedEngine,
@@ -136,6 +137,21 @@ pub(crate) fn kept_pair_key<S: WordStore>(
     }
 }
 
+// The elements that are a part of a key.
+fn part_of<S: WordStore>(
+    key: &SizedKey,
+    part: KeyPart,
+    memory: &Memory<S>,
+) -> Result<Stretch, FrameExit>
+    requires up { memory.now.heap.down ≡ false }
+    requires key { IsKey memory.now key.now.key }
+    ensures part { result ≡ key_part memory.now key.now.key part }
+    ensures there { IfOk result (IsPart memory.now) }
+    ensures plain { plainly result ≡ result }
+{
+    Ok(key_part(&key.key, part, memory)?)
+}
+
 // The parts of an RSA key.
 fn rsa_parts<S: WordStore>(key: &SizedKey, memory: &Memory<S>) -> Result<Parts, FrameExit>
     requires up { memory.now.heap.down ≡ false }
@@ -145,8 +161,8 @@ fn rsa_parts<S: WordStore>(key: &SizedKey, memory: &Memory<S>) -> Result<Parts, 
     ensures size { IfOk result (HasSize key.now.size) }
     ensures plain { plainly result ≡ result }
 {
-    let modulus = key_part(&key.key, KeyPart::Modulus, memory)?;
-    let exponent = key_part(&key.key, KeyPart::Exponent, memory)?;
+    let modulus = part_of(key, KeyPart::Modulus, memory)?;
+    let exponent = part_of(key, KeyPart::Exponent, memory)?;
     check(modulus.count == key.size)?;
     Ok(Parts::Rsa(RsaParts { modulus, exponent }))
 }
@@ -160,11 +176,11 @@ fn primes_parts<S: WordStore>(key: &SizedKey, memory: &Memory<S>) -> Result<Part
     ensures size { IfOk result (HasSize key.now.size) }
     ensures plain { plainly result ≡ result }
 {
-    let p = key_part(&key.key, KeyPart::P, memory)?;
-    let q = key_part(&key.key, KeyPart::Q, memory)?;
-    let q_inverse = key_part(&key.key, KeyPart::Pq, memory)?;
-    let dp = key_part(&key.key, KeyPart::Dp1, memory)?;
-    let dq = key_part(&key.key, KeyPart::Dq1, memory)?;
+    let p = part_of(key, KeyPart::P, memory)?;
+    let q = part_of(key, KeyPart::Q, memory)?;
+    let q_inverse = part_of(key, KeyPart::Pq, memory)?;
+    let dp = part_of(key, KeyPart::Dp1, memory)?;
+    let dq = part_of(key, KeyPart::Dq1, memory)?;
     Ok(Parts::Primes(Primes {
         p,
         q,
@@ -187,12 +203,12 @@ fn ec_parts<S: WordStore>(
     ensures size { IfOk result (HasSize key.now.size) }
     ensures plain { plainly result ≡ result }
 {
-    let field = key_part(&key.key, KeyPart::Field, memory)?;
-    let a = key_part(&key.key, KeyPart::A, memory)?;
-    let b = key_part(&key.key, KeyPart::B, memory)?;
-    let base = key_part(&key.key, KeyPart::G, memory)?;
-    let order = key_part(&key.key, KeyPart::R, memory)?;
-    let last = key_part(&key.key, own, memory)?;
+    let field = part_of(key, KeyPart::Field, memory)?;
+    let a = part_of(key, KeyPart::A, memory)?;
+    let b = part_of(key, KeyPart::B, memory)?;
+    let base = part_of(key, KeyPart::G, memory)?;
+    let order = part_of(key, KeyPart::R, memory)?;
+    let last = part_of(key, own, memory)?;
     Ok(Parts::Ec(EcParts {
         field,
         a,
@@ -204,6 +220,7 @@ fn ec_parts<S: WordStore>(
 }
 
 /// The parts of a key. One that is not set throws UNINITIALIZED_KEY.
+#[tactic(auto, unfolding(crate::specs::Signature::Pair::Keys::pair_parts))]
 pub(crate) fn pair_parts<S: WordStore>(
     key: &SizedKey,
     memory: &Memory<S>,

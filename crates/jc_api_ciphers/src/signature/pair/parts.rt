@@ -1,5 +1,6 @@
 //! The parts of keys of pairs, as signatures read them.
 ghost use Rattle.std.specs.Prelude.{◌≡◌, ◌≤◌, false, length, if◌then◌else◌, Some, None};
+ghost use Rattle.jc_world.specs.Arrays.{IsInArray, bytes_in};
 ghost use Rattle.jc_api_ciphers.specs.Signature.Pair.Parts.{ArePrimes, AreRsaParts, crt_power, power};
 
 use jc_api_keys::receivers::read;
@@ -46,6 +47,23 @@ pub enum Parts {
     Ec(EcParts),
 }
 
+/// Reads a part into the first of some bytes, and returns these.
+pub(crate) fn read_part<'a, S: WordStore>(
+    part: Stretch,
+    memory: &Memory<S>,
+    bytes: &'a mut [u8],
+) -> &'a [u8]
+    requires up { memory.now.heap.down ≡ false }
+    requires there { IsInArray memory.now part }
+    requires room { part.count ≤ length bytes.old }
+    ensures bytes { result.now ≡ bytes_in memory.now part }
+    ensures all { length result.now ≡ part.count }
+{
+    let first = &mut bytes[..part.count as usize];
+    read(part, memory, first);
+    first
+}
+
 /// Writes the power of a message under an RSA key, in as many bytes as the modulus has. It returns false where there is none.
 pub(crate) fn put_power_by<S: WordStore>(
     key: &RsaParts,
@@ -60,11 +78,9 @@ pub(crate) fn put_power_by<S: WordStore>(
     ensures { (if result then Some to.new else None) ≡ power memory.now key.now message.now }
 {
     let mut modulus_bytes = [0; MOST_ENCODING];
-    let modulus = &mut modulus_bytes[..key.modulus.count as usize];
-    read(key.modulus, memory, modulus);
+    let modulus = read_part(key.modulus, memory, &mut modulus_bytes);
     let mut exponent_bytes = [0; MOST_ENCODING];
-    let exponent = &mut exponent_bytes[..key.exponent.count as usize];
-    read(key.exponent, memory, exponent);
+    let exponent = read_part(key.exponent, memory, &mut exponent_bytes);
     put_power(modulus, exponent, message, to)
 }
 
@@ -82,20 +98,15 @@ pub(crate) fn put_power_by_primes<S: WordStore>(
     ensures { (if result then Some to.new else None) ≡ crt_power memory.now key.now message.now (length to.old) }
 {
     let mut p_bytes = [0; MOST_ENCODING];
-    let p = &mut p_bytes[..key.p.count as usize];
-    read(key.p, memory, p);
+    let p = read_part(key.p, memory, &mut p_bytes);
     let mut q_bytes = [0; MOST_ENCODING];
-    let q = &mut q_bytes[..key.q.count as usize];
-    read(key.q, memory, q);
+    let q = read_part(key.q, memory, &mut q_bytes);
     let mut q_inverse_bytes = [0; MOST_ENCODING];
-    let q_inverse = &mut q_inverse_bytes[..key.q_inverse.count as usize];
-    read(key.q_inverse, memory, q_inverse);
+    let q_inverse = read_part(key.q_inverse, memory, &mut q_inverse_bytes);
     let mut dp_bytes = [0; MOST_ENCODING];
-    let dp = &mut dp_bytes[..key.dp.count as usize];
-    read(key.dp, memory, dp);
+    let dp = read_part(key.dp, memory, &mut dp_bytes);
     let mut dq_bytes = [0; MOST_ENCODING];
-    let dq = &mut dq_bytes[..key.dq.count as usize];
-    read(key.dq, memory, dq);
+    let dq = read_part(key.dq, memory, &mut dq_bytes);
     let parts = CrtKey {
         p,
         q,
