@@ -32,10 +32,7 @@ rsa_padding_number NoPadding = pos 1
 rsa_padding_number Pkcs1 = pos 7
 rsa_padding_number Oaep = pos 9
 
--- how many bytes a state has, and shorts: how many bytes came, and room for those of the longest modulus
-abbrev pub rsa_state_size : ℕ
-rsa_state_size = 514
-
+-- how many shorts a state has: how many bytes came, and room for those of the longest modulus
 abbrev pub rsa_shorts : ℕ
 rsa_shorts = 257
 
