@@ -37,10 +37,8 @@ pub fn link(
         → AreFound linked.now contents.now.imports }
 {
     let mut package = LinkedPackage::empty(alloc);
-    match package.link(alloc, linked, contents, methods) {
-        Ok(()) => Ok(package),
-        Err(fault) => Err(fault),
-    }
+    package.link(alloc, linked, contents, methods)?;
+    Ok(package)
 }
 
 impl LinkedPackage {
