@@ -3,6 +3,7 @@
 
 pub mod asked;
 pub mod command;
+pub mod image_sweep;
 pub mod join;
 pub mod kept_text;
 pub mod last_line;
