@@ -13,6 +13,7 @@ pub mod ReportedFaults
 pub mod Output
 pub mod Subject
 pub mod ImageSweep
+pub mod AtCommand
 pub mod Shares
 pub mod PartTexts
 pub mod Join

@@ -2,6 +2,7 @@
 #![tactic(auto)]
 
 pub mod asked;
+pub mod at_command;
 pub mod command;
 pub mod image_sweep;
 pub mod join;
