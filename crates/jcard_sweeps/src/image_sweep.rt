@@ -5,7 +5,7 @@ ghost use Rattle.jcard_sweeps.specs.ImageSweep.{SweepsImage, SweepsSubject};
 ghost use Rattle.jcard_sweeps.specs.Subject.{CarriedThen, CarriesOver};
 ghost use Rattle.jcard_sweeps.specs.SweepAsked.{sweep_asked_by};
 ghost use Rattle.jcard_sweeps.specs.Targets.{IsAmong};
-ghost use Rattle.jcard_sweeps.specs.declared.image_sweep.Swept.{Swept};
+ghost use Rattle.jcard_sweeps.specs.declared.image_sweep.Swept.{Swept as SweptValue};
 
 use crate::asked::Asked;
 use crate::progress::Progress;
@@ -31,7 +31,7 @@ pub struct Swept<'n, 'a> {
 /// How commands are swept, and what is reported of it.
 pub trait Sweep {
     // what is said of the end of a sweep, and of its report
-    ghost sweeps: { Self → Swept → Tells };
+    ghost sweeps: { Self → SweptValue → Tells };
 
     /// Sweeps these commands, on cards in memory alone, and writes the report.
     fn sweep<'n, W: TextOut, P: Progress + Remarks>(
@@ -85,7 +85,7 @@ fn sweep_script<'n, D: Disk, W: TextOut, P: Progress + Remarks, S: Sweep>(
 ) -> Result<(), Fault<'n>>
     requires { length read.words.now < 65536 }
     ensures { Does D.does W.contents W.failures disk.old disk.new out.old out.new result
-        (CarriesOver read.names.image.now read.words.now read.script.now asked.entry.behind.instructions
+        (CarriesOver read.entry.names.image.now read.entry.words.now read.entry.script.now asked.entry.behind.instructions
         (SweepsSubject (sweep_asked_by asked.entry) (S.sweeps sweep.now))) }
 {
     let Ok(commands) = commands(disk.alloc(), read.script) else {
