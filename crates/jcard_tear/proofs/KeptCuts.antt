@@ -1,5 +1,5 @@
 -- Cuts of copies of a card that is kept at the command.
-use Rattle.std.proofs.Common.{◌≡◌, ◌≢◌, ◌∙◌, ◌++◌, ◌==◌, ℕ, true, false, List, [], ◌∷◌, Bool, Ok, ap, inr, length, refl, sym, subst, take}
+use Rattle.std.proofs.Common.{◌≡◌, ◌≢◌, ◌∙◌, ◌++◌, ℕ, true, false, List, [], ap, inr, length, refl, sym, subst, take}
 use Rattle.std.specs.Prelude.{codes, decimal, slice_index}
 use Rattle.std.proofs.Math.Nat.{pow-zero}
 use Rattle.std.proofs.lemmas.Bool.{ne_eqb}
@@ -11,7 +11,6 @@ use Rattle.jc_commit.specs.Replay.{replay_writes}
 use Rattle.jc_commit.proofs.Migrations.{migration-recovered}
 use Rattle.jc_card.specs.State.Power.{Up}
 use Rattle.jcard_script.specs.Begun.{LeavesCut}
-use Rattle.jcard_script.specs.Script.{EndsWithin}
 use Rattle.jcard_outcomes.specs.declared.recoveries.Depth.{Depth}
 use Rattle.jcard_outcomes.specs.declared.recoveries.Depth.TheVariants.{Zero}
 use Rattle.jcard_outcomes.specs.declared.recoveries.Recoveries.{Recoveries}
