@@ -9,6 +9,6 @@ lent_or None other none = none
 lent_or (Some text) other none = refl
 
 -- those of the probe, or none
-pub asked_after : (lent : Option (Bor (List ℕ))) (given : Option (List ℕ)) (asked other : Bor (List ℕ)) → text_of lent ≡ given → asked ≡ unwrap_or lent other
-    → other.now ≡ [] → asked.now ≡ unwrap_or given []
-asked_after lent given asked other same is none = ap (λ (b : Bor (List ℕ)). b.now) is ∙ (lent_or lent other none ∙ ap (λ (o : Option (List ℕ)). unwrap_or o []) same)
+pub asked_after : (lent : Option (Bor (List ℕ))) (asked other : Bor (List ℕ)) → asked ≡ unwrap_or lent other → other.now ≡ []
+    → asked.now ≡ unwrap_or (text_of lent) []
+asked_after lent asked other is none = ap (λ (b : Bor (List ℕ)). b.now) is ∙ lent_or lent other none

@@ -19,7 +19,7 @@ use Rattle.jcard_sweeps.specs.LastLine.{IsLastLine}
 use Rattle.jcard_attack.specs.Aftermaths.{IsAftermath, attacked_script, ended_line, glitch_line, probed_script}
 use Rattle.jcard_attack.specs.KeptCard.{HasStruck, IsKeptFor, Leaves}
 use Rattle.jcard_attack.specs.declared.aftermaths.Attacked.{Attacked}
-use Rattle.jcard_attack.specs.declared.kept_card.AtCommand.{AtCommand}
+use Rattle.jcard_sweeps.specs.declared.at_command.AtCommand.{AtCommand}
 use Rattle.jcard_attack.specs.declared.outcomes.Aftermath.{Aftermath}
 use Rattle.jcard_attack.proofs.Begins.{HasPrinted, begun_ended, begun_ends, begun_more}
 use Rattle.jcard_attack.proofs.LastLines.{IsFree, free_test, free_unbroken, hex_free, last_line_is}

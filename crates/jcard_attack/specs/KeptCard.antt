@@ -7,17 +7,18 @@ use Rattle.jc_commit.specs.Migration.{migrated}
 use Rattle.jc_card.specs.State.Power.{Up, planned_card}
 use Rattle.jc_card.specs.declared.planned_fault.PlannedFault.{PlannedFault}
 use Rattle.jcard_outcomes.specs.declared.standing.Left.{Left}
-use Rattle.jcard_script.specs.Begun.{AnswersLines, HasBegun, IsCommandLine}
+use Rattle.jcard_script.specs.Begun.{AnswersLines, HasBegun}
 use Rattle.jcard_script.specs.Script.{planned_text, text_of}
 use Rattle.jcard_script.specs.ScriptStates.{IsSessionStore}
+use Rattle.jcard_sweeps.specs.AtCommand.{IsAtCommand}
 use Rattle.jcard_sweeps.specs.Runs.{store_of}
+use Rattle.jcard_sweeps.specs.declared.at_command.AtCommand.{AtCommand}
 use Rattle.jcard_attack.specs.Aftermaths.{attacked_script}
 use Rattle.jcard_attack.specs.declared.aftermaths.Attacked.{Attacked}
-use Rattle.jcard_attack.specs.declared.kept_card.AtCommand.{AtCommand}
 
--- a card over these words has carried out the lines before a command, and these are the command's bytes
+-- a card over these words stands at the command
 abbrev pub IsKeptFor : List ℕ → Attacked → AtCommand → Type 0
-IsKeptFor words c kept = HasBegun c.instructions (store_of words) c.before.now kept.begun × IsCommandLine kept.command.items c.line.now
+IsKeptFor words c = IsAtCommand words c.instructions c.before.now c.line.now
 
 -- a card has carried out the lines before the command, the command with this fault, or with none, and `glitch none`, and this was the command's
 -- response

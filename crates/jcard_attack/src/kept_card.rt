@@ -7,21 +7,14 @@ ghost use Rattle.jcard_attack.specs.declared.aftermaths.Attacked.{Attacked as An
 
 use crate::aftermaths::{Attacked, push_glitch};
 use crate::outcomes::Aftermath;
-use arrayvec::ArrayVec;
 use jc_card::planned_fault::PlannedFault;
 use jc_card::response::Response;
-use jc_words::{FuseStore, MemStore};
+use jc_words::MemStore;
 use jcard_outcomes::standing::Left;
-use jcard_script::begun::{BegunScript, begin_script, command_of_line};
+use jcard_script::begun::BegunScript;
+use jcard_sweeps::at_command::{AtCommand, at_command};
 use jcard_sweeps::runs::{probed, recovered, words_of};
 use std::alloc::{AllocError, Global};
-
-/// A card that has carried out the lines before a command, and the bytes of the command.
-#[derive(Drop)]
-pub(crate) struct AtCommand {
-    begun: BegunScript<MemStore>,
-    command: ArrayVec<u8, 65545>,
-}
 
 /// The card of a copy of these words at a command. Nothing where its line is no command that a line feed ends, or where the lines before it
 /// lead to no card that is up.
@@ -29,60 +22,51 @@ pub(crate) fn kept_for(alloc: Global, words: &[u16], attacked: Attacked) -> Opti
     requires { length words.now < 65536 }
     ensures { IfSome result (λ kept. IsKeptFor words.now attacked.entry kept) }
 {
-    let command = command_of_line(attacked.line)?;
-    let Ok(copy) = Vec::from_slice(alloc, words) else {
+    at_command(
+        alloc,
+        words,
+        attacked.instructions,
+        attacked.before,
+        attacked.line,
+    )
+}
+
+/// What the command comes to on a copy of the card, with this fault or without one, and what these lines of a probe are answered then.
+/// Nothing where memory is refused, where the power is cut within the command or its probe, where the command opens a load, or where the
+/// image is of the first version.
+pub(crate) fn aftermath_of_copy(
+    alloc: Global,
+    kept: &AtCommand,
+    fault: Option<PlannedFault>,
+    probe: &[u8],
+) -> Option<Aftermath>
+    ensures { IfSome result (λ a. (words : List ℕ) (c : AnAttacked) → IsKeptFor words c kept.now
+        → c.probe.now ≡ probe.now → IsAftermath words c fault a) }
+{
+    let mut response = Response::empty();
+    let next = struck_copy(alloc, kept, fault, &mut response)?;
+    let left = left_by(alloc, next, probe)?;
+    match digits_of(alloc, response.as_bytes()) {
+        Ok(answer) => Some(Aftermath { answer, left }),
+        Err(AllocError) => None,
+    }
+}
+
+// A copy of the card that has carried out the command, with this fault or without one, and its response.
+fn struck_copy(
+    alloc: Global,
+    kept: &AtCommand,
+    fault: Option<PlannedFault>,
+    response: &mut Response,
+) -> Option<BegunScript<MemStore>>
+    ensures { IfSome result (λ next. (words : List ℕ) (c : AnAttacked) → IsKeptFor words c kept.now
+        → HasStruck words c fault response.new next) }
+{
+    let Ok(line) = glitch_line(alloc, fault) else {
         return None;
     };
-    let store = FuseStore::new(MemStore::of(copy));
-    let begun = begin_script(alloc, store, attacked.instructions, attacked.before)?;
-    Some(AtCommand { begun, command })
-}
-
-/// Ends the card that is kept, if it is. Of its store less is let go than of the card.
-pub(crate) fn end_kept(kept: Option<AtCommand>) {
-    if let Some(kept) = kept {
-        let _store = kept.begun.into_store();
-    }
-}
-
-impl AtCommand {
-    /// What the command comes to on a copy of the card, with this fault or without one, and what these lines of a probe are answered then.
-    /// Nothing where memory is refused, where the power is cut within the command or its probe, where the command opens a load, or where the
-    /// image is of the first version.
-    pub(crate) fn aftermath(
-        &self,
-        alloc: Global,
-        fault: Option<PlannedFault>,
-        probe: &[u8],
-    ) -> Option<Aftermath>
-        ensures { IfSome result (λ a. (words : List ℕ) (c : AnAttacked) → IsKeptFor words c self.now
-            → c.probe.now ≡ probe.now → IsAftermath words c fault a) }
-    {
-        let mut response = Response::empty();
-        let next = self.struck(alloc, fault, &mut response)?;
-        let left = left_by(alloc, next, probe)?;
-        match digits_of(alloc, response.as_bytes()) {
-            Ok(answer) => Some(Aftermath { answer, left }),
-            Err(AllocError) => None,
-        }
-    }
-
-    // A copy of the card that has carried out the command, with this fault or without one, and its response.
-    fn struck(
-        &self,
-        alloc: Global,
-        fault: Option<PlannedFault>,
-        response: &mut Response,
-    ) -> Option<BegunScript<MemStore>>
-        ensures { IfSome result (λ next. (words : List ℕ) (c : AnAttacked) → IsKeptFor words c self.now
-            → HasStruck words c fault response.new next) }
-    {
-        let Ok(line) = glitch_line(alloc, fault) else {
-            return None;
-        };
-        let (_, glitch) = line.split_last()?;
-        self.begun.after(glitch, self.command.as_slice(), response)
-    }
+    let (_, glitch) = line.split_last()?;
+    kept.begun.after(glitch, kept.command.as_slice(), response)
 }
 
 // The line that plans a fault, or none, with its line feed.

@@ -30,7 +30,7 @@ pub(crate) fn is_of_faults(name: &[u8]) -> bool
 /// faults.
 pub(crate) fn faults_name(
     alloc: Global,
-    attacking: Attacking<'_, '_>,
+    attacking: Attacking<'_, '_, '_, '_>,
     line: ScriptLine,
     parts: u16,
 ) -> Result<Vec<u8>, AllocError>
@@ -49,7 +49,7 @@ pub(crate) fn faults_name(
 /// The name of a sweep over this script in this many parts, as of a sweep of cuts whose script says first which faults are tried.
 pub(crate) fn attack_name(
     alloc: Global,
-    attacking: Attacking<'_, '_>,
+    attacking: Attacking<'_, '_, '_, '_>,
     script: &[u8],
     parts: u16,
 ) -> Result<Vec<u8>, AllocError>

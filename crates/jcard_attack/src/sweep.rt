@@ -10,7 +10,7 @@ ghost use Rattle.jcard_sweeps.specs.Report.{AreOfImage};
 
 use crate::aftermaths::{AttackFault, Attacked, aftermath, begun};
 use crate::judgement::{compared, gives_access, is_same_as, judged, last_answer};
-use crate::kept_card::{AtCommand, end_kept, kept_for};
+use crate::kept_card::{aftermath_of_copy, kept_for};
 use crate::models::{faults_tried, kinds_tried};
 use crate::objects::{aftermath_told, objects_before};
 use crate::outcomes::{Aftermath, AttackSweep, Struck};
@@ -21,12 +21,10 @@ use jcard_outcomes::models::Models;
 use jcard_outcomes::part::Share;
 use jcard_outcomes::rows::is_same;
 use jcard_outcomes::standing::Left;
+use jcard_sweeps::at_command::AtCommand;
 use jcard_sweeps::report::told;
 use jcard_sweeps::shares::share_in;
 use std::alloc::{AllocError, Global};
-
-/// How many bytes are taken once; copies of a card of the largest image take less.
-const KEPT_ROOM: usize = 4_194_304;
 
 /// Which faults of a command are tried, and within how many instructions a second one comes after the first, where 0 is for one fault alone; the
 /// end of an answer that none of them may get, in upper case; whether it is reported which cells of objects changed; and a map whose names are
@@ -155,7 +153,6 @@ fn strikes_of(
         (λ strikes. AreStruckBy words.now attacked.entry baseline.entry faults.now strikes.items)
         (λ fault. IsUnfinished words.now attacked.entry fault) }
 {
-    keep_room(alloc);
     let shared = Shared {
         words,
         attacked,
@@ -163,7 +160,10 @@ fn strikes_of(
         baseline,
     };
     let strikes = strike_each(alloc, &shared, faults);
-    end_kept(shared.card);
+    // Of its store less is let go than of the card.
+    if let Some(kept) = shared.card {
+        let _store = kept.begun.into_store();
+    }
     strikes
 }
 
@@ -189,13 +189,6 @@ fn asked_in(faults: &[PlannedFault], part: Option<Share>) -> &[PlannedFault]
         Some(share) => share_in(faults, share),
         None => faults,
     }
-}
-
-// Takes room once and gives it back. The allocator of the C library keeps from then on what is given back, up to twice as much, in place of giving
-// it to the system and asking for it again for each copy of the card.
-fn keep_room(alloc: Global) {
-    let room: Result<Vec<u8>, AllocError> = Vec::with_capacity(alloc, KEPT_ROOM);
-    drop(room);
 }
 
 // What each of these faults came to.
@@ -297,7 +290,7 @@ fn aftermath_on_card(alloc: Global, shared: &Shared<'_>, fault: PlannedFault) ->
         (Some fault) found) }
 {
     match &shared.card {
-        Some(card) => card.aftermath(alloc, Some(fault), shared.attacked.probe),
+        Some(card) => aftermath_of_copy(alloc, card, Some(fault), shared.attacked.probe),
         None => None,
     }
 }

@@ -26,13 +26,13 @@ use std::alloc::Global;
 
 /// How commands of a script are attacked.
 #[derive(Clone, Copy, Drop)]
-pub(crate) struct Attacking<'n, 'a> {
+pub(crate) struct Attacking<'n, 'a, 'm, 's> {
     /// Whose commands are attacked.
     pub(crate) subject: Subject<'n, 'a>,
     /// The lines of a probe, which come after each fault.
     pub(crate) probe: &'a [u8],
     /// What is asked for.
-    pub(crate) asked: AskedAttack<'n, 'a>,
+    pub(crate) asked: AskedAttack<'m, 's>,
 }
 
 /// What is reported of faults, and whether one was accepted.
@@ -45,7 +45,7 @@ pub(crate) struct ToldAttack {
 /// What is reported of the faults of this.
 pub(crate) fn told_by<P: Progress>(
     alloc: Global,
-    attacking: Attacking<'_, '_>,
+    attacking: Attacking<'_, '_, '_, '_>,
     target: Target,
     progress: &mut P,
 ) -> Result<ToldAttack, AttackFault>
@@ -72,7 +72,7 @@ pub(crate) fn told_by<P: Progress>(
 // What is reported of the faults of each command.
 fn told_each<P: Progress>(
     alloc: Global,
-    attacking: Attacking<'_, '_>,
+    attacking: Attacking<'_, '_, '_, '_>,
     progress: &mut P,
 ) -> Result<ToldAttack, AttackFault>
     requires { length attacking.subject.words.now < 65536 }
@@ -102,7 +102,7 @@ fn told_each<P: Progress>(
 // What is reported of the faults of each command in this part of them, which ends as if none was accepted.
 fn told_in<P: Progress>(
     alloc: Global,
-    attacking: Attacking<'_, '_>,
+    attacking: Attacking<'_, '_, '_, '_>,
     share: Share,
     progress: &mut P,
 ) -> Result<ToldAttack, AttackFault>
@@ -146,7 +146,7 @@ fn tell_images<P: Progress>(attacks: &[LineAttack], progress: &mut P) {
 // What is reported of the faults of a command in this part of them, which ends as if none was accepted.
 fn told_part<P: Progress>(
     alloc: Global,
-    attacking: Attacking<'_, '_>,
+    attacking: Attacking<'_, '_, '_, '_>,
     line: ScriptLine,
     share: Share,
     progress: &mut P,

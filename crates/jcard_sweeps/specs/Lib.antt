@@ -12,6 +12,8 @@ pub mod ScriptFault
 pub mod ReportedFaults
 pub mod Output
 pub mod Subject
+pub mod ImageSweep
+pub mod AtCommand
 pub mod Shares
 pub mod PartTexts
 pub mod Join

@@ -2,7 +2,9 @@
 #![tactic(auto)]
 
 pub mod asked;
+pub mod at_command;
 pub mod command;
+pub mod image_sweep;
 pub mod join;
 pub mod kept_text;
 pub mod last_line;

@@ -1,5 +1,5 @@
 -- Cuts of copies of a card that is kept at the command.
-use Rattle.std.proofs.Common.{◌≡◌, ◌≢◌, ◌∙◌, ◌++◌, ◌==◌, ℕ, true, false, List, [], ◌∷◌, Bool, Ok, ap, inr, length, refl, sym, subst, take}
+use Rattle.std.proofs.Common.{◌≡◌, ◌≢◌, ◌∙◌, ◌++◌, ℕ, true, false, List, [], ap, inr, length, refl, sym, subst, take}
 use Rattle.std.specs.Prelude.{codes, decimal, slice_index}
 use Rattle.std.proofs.Math.Nat.{pow-zero}
 use Rattle.std.proofs.lemmas.Bool.{ne_eqb}
@@ -11,7 +11,6 @@ use Rattle.jc_commit.specs.Replay.{replay_writes}
 use Rattle.jc_commit.proofs.Migrations.{migration-recovered}
 use Rattle.jc_card.specs.State.Power.{Up}
 use Rattle.jcard_script.specs.Begun.{LeavesCut}
-use Rattle.jcard_script.specs.Script.{EndsWithin}
 use Rattle.jcard_outcomes.specs.declared.recoveries.Depth.{Depth}
 use Rattle.jcard_outcomes.specs.declared.recoveries.Depth.TheVariants.{Zero}
 use Rattle.jcard_outcomes.specs.declared.recoveries.Recoveries.{Recoveries}
@@ -28,7 +27,7 @@ use Rattle.jcard_tear.specs.declared.cuts.Baseline.{Baseline}
 use Rattle.jcard_sweeps.specs.declared.command.Command.{Command}
 use Rattle.jcard_tear.specs.declared.cuts.Shared.{Shared}
 use Rattle.jcard_sweeps.specs.Report.{IsTold}
-use Rattle.jcard_tear.specs.declared.kept_card.AtCommand.{AtCommand}
+use Rattle.jcard_sweeps.specs.declared.at_command.AtCommand.{AtCommand}
 use Rattle.jcard_tear.specs.declared.last_cut.LastCut.{LastCut}
 use Rattle.jcard_tear.proofs.CutRecoveries as recoveries
 
@@ -111,7 +110,7 @@ module _ (words : List ℕ) (c : Command) (k : ℕ) (kept : AtCommand) (stop com
   ends left good same =
       let reported = subst (λ (x : List ℕ). LeavesCut kept.begun stop x store) spelt leaves in
       let whole = subst (λ (x : List ℕ). LeavesCut kept.begun x kept.command.items store) line reported in
-      whole c.behind.instructions (store_of words) c.before.now c.line.now for.0 for.1 left good same
+      whole c.behind.instructions (store_of words) c.before.now c.line.now for.0.0 for.0.1 left good same
 
   pub kept_uncut : IsGoodLog store.words → store.down ≡ false → IsUncutAt words c k
   kept_uncut good up = let e = ends store.words good refl in (e.0, store, e.1, up)

@@ -5,25 +5,25 @@ use Rattle.jc_words.specs.Store.{FuseStoreValue}
 use Rattle.jc_commit.specs.Image.{IsGoodLog, count_of, is_log, limit_of, plain_of, recovered_of, top_of}
 use Rattle.jc_card.specs.Card.{CardState}
 use Rattle.jc_card.specs.State.Power.{Up}
-use Rattle.jcard_script.specs.Begun.{AnswersLines, HasBegun, IsCommandLine}
+use Rattle.jcard_script.specs.Begun.{AnswersLines}
 use Rattle.jcard_script.specs.ScriptStates.{PowersUp}
 use Rattle.jcard_outcomes.specs.declared.recoveries.Depth.TheVariants.{Zero}
 use Rattle.jcard_outcomes.specs.declared.recoveries.Recoveries.{Recoveries}
 use Rattle.jcard_outcomes.specs.declared.standing.Cut.{Cut}
 use Rattle.jcard_outcomes.specs.declared.standing.Left.{Left}
+use Rattle.jcard_sweeps.specs.AtCommand.{IsAtCommand}
 use Rattle.jcard_sweeps.specs.Runs.{IsRecovered, Runs, store_of}
 use Rattle.jcard_tear.specs.Sweep.{IsToldAs, IsToldCut, IsUncutAt, cut_script}
 use Rattle.jcard_sweeps.specs.declared.command.Command.{Command}
 use Rattle.jcard_tear.specs.declared.cuts.Shared.{Shared}
-use Rattle.jcard_tear.specs.declared.kept_card.AtCommand.{AtCommand}
+use Rattle.jcard_sweeps.specs.declared.at_command.AtCommand.{AtCommand}
 use Rattle.jcard_tear.specs.declared.kept_card.KeptCut.{KeptCut}
 use Rattle.jcard_tear.specs.declared.kept_card.KeptCut.TheVariants.{Uncut, Left as Leaves}
 use Rattle.jcard_tear.specs.declared.last_cut.LastCut.{LastCut}
 
--- a card over these words has carried out the lines before a command, after whose cuts no recovery is cut, and these are the command's bytes
+-- a card over these words stands at a command, after whose cuts no recovery is cut
 abbrev pub IsKeptFor : List ℕ → Command → AtCommand → Type 0
-IsKeptFor words c kept = HasBegun c.behind.instructions (store_of words) c.before.now kept.begun × IsCommandLine kept.command.items c.line.now
-    × (c.behind.depth ≡ Zero)
+IsKeptFor words c kept = IsAtCommand words c.behind.instructions c.before.now c.line.now kept × (c.behind.depth ≡ Zero)
 
 -- with the power cut after k writes of the command the card is down, and any words may be left of which a recovery makes this heap
 abbrev pub MayLeave : List ℕ → Command → ℕ → List ℕ → Type 0

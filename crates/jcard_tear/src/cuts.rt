@@ -7,7 +7,7 @@ ghost use Rattle.jcard_sweeps.specs.declared.command.Command.{Command as Command
 ghost use Rattle.jcard_tear.specs.Sweep.{AreCuts, IsCutAt, IsToldAs, IsUncutAt, cut_script};
 ghost use Rattle.jcard_sweeps.specs.Report.{AreOfImage};
 
-use crate::kept_card::{AtCommand, KeptCut, end_kept, kept_for};
+use crate::kept_card::{KeptCut, cut_copy, kept_for};
 use crate::last_cut::{LastCut, reported_cut};
 use crate::recoveries::recoveries;
 use crate::sweep::{left_by_probe, probe_fault};
@@ -16,6 +16,7 @@ use jc_objects::image_objects::ImageObjects;
 use jcard_outcomes::part::Share;
 use jcard_outcomes::recoveries::Recoveries;
 use jcard_outcomes::standing::{Cut, Left, lost_of, standing_of};
+use jcard_sweeps::at_command::AtCommand;
 use jcard_sweeps::command::{Behind, Command};
 use jcard_sweeps::progress::Progress;
 use jcard_sweeps::report::told;
@@ -90,7 +91,10 @@ pub(crate) fn cut_all<P: Progress>(
         baseline,
     };
     let cuts = cuts_of(alloc, &shared, share, progress);
-    end_kept(shared.card);
+    // Of its store less is let go than of the card.
+    if let Some(kept) = shared.card {
+        let _store = kept.begun.into_store();
+    }
     cuts
 }
 
@@ -190,7 +194,7 @@ fn cut_of_card(alloc: Global, number: u16, shared: &Shared<'_>) -> Option<KeptCu
     ensures short { IfSome result IsShort }
 {
     match &shared.card {
-        Some(card) => card.cut(alloc, number),
+        Some(card) => cut_copy(alloc, card, number),
         None => None,
     }
 }

@@ -6,26 +6,15 @@ ghost use Rattle.jcard_sweeps.specs.Runs.{IsRecovered};
 ghost use Rattle.jcard_sweeps.specs.declared.command.Command.{Command as CommandText};
 
 use crate::recoveries::journal_of;
-use arrayvec::ArrayVec;
 use itoa::Buffer;
-use jc_words::{FuseStore, MemStore, WordStore};
+use jc_words::WordStore;
 use jcard_outcomes::recoveries::Depth;
-use jcard_script::begun::{BegunScript, begin_script, command_of_line};
+use jcard_sweeps::at_command::{AtCommand, at_command};
 use jcard_sweeps::command::Command;
 use jcard_sweeps::runs::{recovered, words_of};
 use std::alloc::{AllocError, Global};
 
-/// How many bytes are taken once; copies of a card of the largest image take less.
-const KEPT_ROOM: usize = 4_194_304;
-
-/// A card that has carried out the lines before a command, and the bytes of the command.
-#[derive(Drop)]
-pub(crate) struct AtCommand {
-    begun: BegunScript<MemStore>,
-    command: ArrayVec<u8, 65545>,
-}
-
-/// What came of a cut of a copy of that card.
+/// What came of a cut of a copy of a card at a command.
 #[derive(Drop)]
 pub(crate) enum KeptCut {
     /// The command makes no more writes.
@@ -43,51 +32,31 @@ pub(crate) fn kept_for(alloc: Global, words: &[u16], command: Command) -> Option
     let Depth::Zero = command.behind.depth else {
         return None;
     };
-    let bytes = command_of_line(command.line)?;
-    keep_room(alloc);
-    let Ok(copy) = Vec::from_slice(alloc, words) else {
+    at_command(
+        alloc,
+        words,
+        command.behind.instructions,
+        command.before,
+        command.line,
+    )
+}
+
+/// Cuts a copy of the card after this many writes of the command, and recovers what is left. Nothing where memory is refused, or
+/// where the image is of the first version.
+pub(crate) fn cut_copy(alloc: Global, kept: &AtCommand, number: u16) -> Option<KeptCut>
+    ensures cut { IfSome result (λ cut. (words : List ℕ) (c : CommandText)
+        → IsKeptFor words c kept.now → IsKeptCut words c number cut) }
+    ensures short { IfSome result IsShort }
+{
+    let Ok(stop) = stop_line(alloc, number) else {
         return None;
     };
-    let store = FuseStore::new(MemStore::of(copy));
-    let begun = begin_script(alloc, store, command.behind.instructions, command.before)?;
-    Some(AtCommand {
-        begun,
-        command: bytes,
-    })
-}
-
-// Takes room once and gives it back. The allocator of the C library keeps from then on what is given back, up to twice as much, in place of giving
-// it to the system and asking for it again for each copy of the card.
-fn keep_room(alloc: Global) {
-    let room: Result<Vec<u8>, AllocError> = Vec::with_capacity(alloc, KEPT_ROOM);
-    drop(room);
-}
-
-/// Ends the card that is kept, if it is. Of its store less is let go than of the card.
-pub(crate) fn end_kept(kept: Option<AtCommand>) {
-    if let Some(kept) = kept {
-        let _store = kept.begun.into_store();
+    let store = kept.begun.cut(&stop, kept.command.as_slice())?;
+    if !store.is_down() {
+        return Some(KeptCut::Uncut);
     }
-}
-
-impl AtCommand {
-    /// Cuts a copy of the card after this many writes of the command, and recovers what is left. Nothing where memory is refused, or
-    /// where the image is of the first version.
-    pub(crate) fn cut(&self, alloc: Global, number: u16) -> Option<KeptCut>
-        ensures cut { IfSome result (λ cut. (words : List ℕ) (c : CommandText)
-            → IsKeptFor words c self.now → IsKeptCut words c number cut) }
-        ensures short { IfSome result IsShort }
-    {
-        let Ok(stop) = stop_line(alloc, number) else {
-            return None;
-        };
-        let store = self.begun.cut(&stop, self.command.as_slice())?;
-        if !store.is_down() {
-            return Some(KeptCut::Uncut);
-        }
-        let found = recovered_alike(words_of(store))?;
-        Some(KeptCut::Left(found))
-    }
+    let found = recovered_alike(words_of(store))?;
+    Some(KeptCut::Left(found))
 }
 
 // What a recovery of these words leaves; nothing where no journal is found in them, as in an image of the first version.

@@ -2,7 +2,7 @@ use Rattle.std.proofs.Common.{[], ◌++◌, refl, inl, inr}
 use Rattle.std.proofs.lemmas.Result.{err_from_is_err_and}
 use Rattle.jcard_texts.proofs.Known.{appends_same}
 use Rattle.jcard_files.proofs.Effects.{unfailed}
-use Rattle.jcard_tear.proofs.image_sweep.tear_image.Goals as goal
+use Rattle.jcard_sweeps.proofs.image_sweep.sweep_image.Goals as goal
 
 pub returns-in_err-words : goal.returns-in_err-words
 returns-in_err-words g c =
@@ -33,7 +33,7 @@ returns g c =
     let image = c.in_ok-words.ensures.read in
     let script = c.in_ok-script.ensures.read in
     let text = c.in_ok-script.script.items in
-    let told = rw (c.deref.ensures.value, c.deref-2.ensures.value) at c.tear_script.ensures in
+    let told = rw (c.deref.ensures.value, c.deref-2.ensures.value) at c.sweep_script.ensures in
     let on = told.0 in (
       (
         on.0,

@@ -2,7 +2,7 @@ use Rattle.std.proofs.Common.{[], refl, inl, inr, subst}
 use Rattle.jcard_texts.proofs.Known.{appends_same}
 use Rattle.jcard_sweeps.specs.Output.{IsReportTold}
 use Rattle.jcard_files.proofs.Effects.{unfailed}
-use Rattle.jcard_tear.proofs.image_sweep.tear_target.Goals as goal
+use Rattle.jcard_tear.proofs.image_sweep.TearingSweep.sweep.Goals as goal
 
 pub returns-in-Ok : goal.returns-in-Ok
 returns-in-Ok g c =
