@@ -24,50 +24,81 @@ fn padding_of(name: &str) -> Padding {
     }
 }
 
-// Takes in a piece, and gives how many bytes of the open block are filled.
-fn convert_piece<S: Step>(
-    alloc: Global,
-    step: &S,
-    chain: &mut [u8],
-    block: &mut [u8],
-    used: usize,
-    piece: &[u8],
-    out: &mut Vec<u8>,
-) -> Result<usize, AllocError>
-    requires chain { length chain.old ≡ S.size }
-    requires block { length block.old ≡ S.size }
-    requires some { 1 ≤ S.size }
-    requires fits { S.size ≤ 16 }
-    requires used { used ≤ S.size }
-    ensures { IfOk result (λ filled. filled ≤ S.size) }
-{
-    let mut to = vec![in alloc; 0u8; 16]?;
-    to.extend_from_slice(piece)?;
-    let progress = convert(step, chain, block, used, piece, to.as_mut_slice());
-    out.extend_from_slice(&to.as_slice()[..progress.written])?;
-    Ok(progress.used)
+// A message in pieces, and the block that its chain begins with; nothing where that is zeros.
+#[derive(Clone, Copy, Drop)]
+struct Message<'a> {
+    first: &'a [u8],
+    pieces: &'a [Vec<u8>],
 }
 
-// Takes in all pieces.
-fn convert_all<S: Step>(
+// The padding that is put to a message, and the one that is taken off what comes of it.
+#[derive(Clone, Copy)]
+struct Paddings {
+    put: Padding,
+    taken: Padding,
+}
+
+// What a message has come to: its chaining block, its open block, how many bytes of that are filled, and the output.
+#[derive(Drop)]
+struct Blocks {
+    chain: [u8; 16],
+    block: [u8; 16],
+    used: usize,
+    out: Vec<u8>,
+}
+
+// Takes in a piece.
+fn take_piece<S: Step>(
     alloc: Global,
     step: &S,
-    chain: &mut [u8],
-    block: &mut [u8],
-    pieces: &[Vec<u8>],
-    out: &mut Vec<u8>,
-) -> Result<usize, AllocError>
-    requires chain { length chain.old ≡ S.size }
-    requires block { length block.old ≡ S.size }
-    requires some { 1 ≤ S.size }
-    requires fits { S.size ≤ 16 }
-    ensures { IfOk result (λ filled. filled ≤ S.size) }
+    size: usize,
+    blocks: Blocks,
+    piece: &[u8],
+) -> Result<Blocks, AllocError>
+    requires size { S.size ≡ size }
+    requires some { 1 ≤ size }
+    requires fits { size ≤ 16 }
+    requires used { blocks.used ≤ size }
+    ensures { IfOk result (λ blocks. blocks.used ≤ size) }
 {
-    let mut used = 0;
-    'pieces: for piece in pieces {
-        used = convert_piece(alloc, step, chain, block, used, piece.as_slice(), out)?;
+    let mut blocks = blocks;
+    let mut to = vec![in alloc; 0u8; 16]?;
+    to.extend_from_slice(piece)?;
+    let chain = &mut blocks.chain[..size];
+    let block = &mut blocks.block[..size];
+    let progress = convert(step, chain, block, blocks.used, piece, to.as_mut_slice());
+    blocks.used = progress.used;
+    blocks
+        .out
+        .extend_from_slice(&to.as_slice()[..progress.written])?;
+    Ok(blocks)
+}
+
+// What a message has come to when all its pieces are taken in.
+fn taken_in<S: Step>(
+    alloc: Global,
+    step: &S,
+    size: usize,
+    message: Message<'_>,
+) -> Result<Blocks, AllocError>
+    requires size { S.size ≡ size }
+    requires some { 1 ≤ size }
+    requires fits { size ≤ 16 }
+    ensures { IfOk result (λ blocks. blocks.used ≤ size) }
+{
+    let mut blocks = Blocks {
+        chain: [0; 16],
+        block: [0; 16],
+        used: 0,
+        out: Vec::new(alloc),
+    };
+    if message.first.len() == size {
+        blocks.chain[..size].copy_from_slice(message.first);
     }
-    Ok(used)
+    'pieces: for piece in message.pieces {
+        blocks = take_piece(alloc, step, size, blocks, piece.as_slice())?;
+    }
+    Ok(blocks)
 }
 
 // Takes the padding off the last block. It gives whether there was one.
@@ -93,50 +124,50 @@ fn converted<S: Step>(
     alloc: Global,
     step: &S,
     size: usize,
-    padding: (Padding, Padding),
-    first: &[u8],
-    pieces: &[Vec<u8>],
+    paddings: Paddings,
+    message: Message<'_>,
 ) -> Result<String, AllocError>
     requires size { S.size ≡ size }
     requires some { 1 ≤ size }
     requires fits { size ≤ 16 }
 {
-    let mut out = Vec::new(alloc);
-    if convert_message(alloc, step, size, padding, first, pieces, &mut out)? {
-        hex::encode(alloc, out.as_slice())
-    } else {
-        String::from_str(alloc, "none")
+    let blocks = taken_in(alloc, step, size, message)?;
+    match finish_message(step, size, paddings, blocks)? {
+        Some(out) => hex::encode(alloc, out.as_slice()),
+        None => String::from_str(alloc, "none"),
     }
 }
 
-// Converts a message. It gives whether it is whole blocks and has a padding.
-fn convert_message<S: Step>(
-    alloc: Global,
+// What a message comes to at its end, if it is whole blocks and has a padding.
+fn finish_message<S: Step>(
     step: &S,
     size: usize,
-    padding: (Padding, Padding),
-    first: &[u8],
-    pieces: &[Vec<u8>],
-    out: &mut Vec<u8>,
-) -> Result<bool, AllocError>
+    paddings: Paddings,
+    blocks: Blocks,
+) -> Result<Option<Vec<u8>>, AllocError>
     requires size { S.size ≡ size }
     requires some { 1 ≤ size }
     requires fits { size ≤ 16 }
+    requires used { blocks.used ≤ size }
 {
-    let mut chain = [0; 16];
-    let chain = &mut chain[..size];
-    if first.len() == size {
-        chain.copy_from_slice(first);
-    }
-    let mut block = [0; 16];
-    let block = &mut block[..size];
-    let used = convert_all(alloc, step, chain, block, pieces, out)?;
+    let Blocks {
+        mut chain,
+        mut block,
+        used,
+        mut out,
+    } = blocks;
     let mut to = [0; 32];
-    let Some(count) = finish(step, padding.0, chain, block, used, &mut to) else {
-        return Ok(false);
+    let chain = &mut chain[..size];
+    let block = &mut block[..size];
+    let Some(count) = finish(step, paddings.put, chain, block, used, &mut to) else {
+        return Ok(None);
     };
     out.extend_from_slice(&to[..count.min(32)])?;
-    Ok(strip(padding.1, size, out))
+    if strip(paddings.taken, size, &mut out) {
+        Ok(Some(out))
+    } else {
+        Ok(None)
+    }
 }
 
 /// A message through ECB and CBC, both ways.
@@ -144,13 +175,16 @@ pub fn mode(alloc: Global, words: [&str; 6], pieces: &[Vec<u8>]) -> Result<Strin
     let [mode, name, way, padding, key, first] = words;
     let key = bytes(alloc, key)?;
     let first = bytes(alloc, first)?;
+    let message = Message {
+        first: first.as_slice(),
+        pieces,
+    };
     mode_by(
         alloc,
         [mode, name, way],
         padding_of(padding),
         key.as_slice(),
-        first.as_slice(),
-        pieces,
+        message,
     )
 }
 
@@ -159,28 +193,19 @@ fn mode_by(
     words: [&str; 3],
     padding: Padding,
     key: &[u8],
-    first: &[u8],
-    pieces: &[Vec<u8>],
+    message: Message<'_>,
 ) -> Result<String, AllocError> {
     let [mode, name, way] = words;
+    let way = [mode, way];
     match name {
         "aes" => match key.len() {
-            16 | 24 | 32 => through(alloc, Aes::new(key), 16, mode, way, padding, first, pieces),
+            16 | 24 | 32 => through(alloc, Aes::new(key), 16, way, padding, message),
             _ => Ok(String::new(alloc)),
         },
         _ => match key.len() {
-            16 | 24 => through(
-                alloc,
-                TripleDes::new(key),
-                8,
-                mode,
-                way,
-                padding,
-                first,
-                pieces,
-            ),
+            16 | 24 => through(alloc, TripleDes::new(key), 8, way, padding, message),
             _ => match <[u8; 8]>::try_from(key) {
-                Ok(key) => through(alloc, Des::new(&key), 8, mode, way, padding, first, pieces),
+                Ok(key) => through(alloc, Des::new(&key), 8, way, padding, message),
                 Err(_) => Ok(String::new(alloc)),
             },
         },
@@ -191,33 +216,34 @@ fn through<C: BlockCipher>(
     alloc: Global,
     cipher: C,
     size: usize,
-    mode: &str,
-    way: &str,
+    way: [&str; 2],
     padding: Padding,
-    first: &[u8],
-    pieces: &[Vec<u8>],
+    message: Message<'_>,
 ) -> Result<String, AllocError>
     requires size { C.size ≡ size }
     requires some { 1 ≤ size }
     requires fits { size ≤ 16 }
 {
-    let put = (padding, Padding::NoPadding);
-    let taken = (Padding::NoPadding, padding);
-    match (mode, way) {
-        ("ecb", "encrypt") => {
-            converted(alloc, &EcbEncryption { cipher }, size, put, first, pieces)
-        }
-        ("ecb", _) => converted(alloc, &EcbDecryption { cipher }, size, taken, first, pieces),
-        (_, "encrypt") => { converted(alloc, &CbcEncryption { cipher }, size, put, first, pieces) }
-        (_, _) => converted(alloc, &CbcDecryption { cipher }, size, taken, first, pieces),
+    let put = Paddings {
+        put: padding,
+        taken: Padding::NoPadding,
+    };
+    let taken = Paddings {
+        put: Padding::NoPadding,
+        taken: padding,
+    };
+    match way {
+        ["ecb", "encrypt"] => converted(alloc, &EcbEncryption { cipher }, size, put, message),
+        ["ecb", _] => converted(alloc, &EcbDecryption { cipher }, size, taken, message),
+        [_, "encrypt"] => converted(alloc, &CbcEncryption { cipher }, size, put, message),
+        [_, _] => converted(alloc, &CbcDecryption { cipher }, size, taken, message),
     }
 }
 
-// The code of a message: `mac1`, and `mac3` with a second key, of ISO 9797-1, and `cmac`.
+// The code of a message under two keys, of which `mac3` alone takes the second: `mac1` and `mac3` of ISO 9797-1, and `cmac`.
 fn code<C: BlockCipher>(
     alloc: Global,
-    cipher: C,
-    second: C,
+    ciphers: (C, C),
     size: usize,
     name: &str,
     padding: Padding,
@@ -227,46 +253,47 @@ fn code<C: BlockCipher>(
     requires some { 1 ≤ size }
     requires fits { size ≤ 16 }
 {
+    let (cipher, second) = ciphers;
     let step = CbcEncryption { cipher };
-    let mut chain = [0; 16];
-    let chain = &mut chain[..size];
-    if finish_code(alloc, &step, &second, size, name, padding, pieces, chain)? {
-        hex::encode(alloc, &*chain)
-    } else {
-        String::from_str(alloc, "none")
+    let blocks = taken_in(alloc, &step, size, Message { first: &[], pieces })?;
+    match finish_code(&step, &second, size, name, padding, blocks) {
+        Some(code) => hex::encode(alloc, &code[..size]),
+        None => String::from_str(alloc, "none"),
     }
 }
 
-// Makes the chaining block the code. It gives whether the message is whole blocks or has a padding.
+// The code of a message, in the first bytes of what is given, if the message is whole blocks or has a padding.
 fn finish_code<C: BlockCipher>(
-    alloc: Global,
     step: &CbcEncryption<C>,
     second: &C,
     size: usize,
     name: &str,
     padding: Padding,
-    pieces: &[Vec<u8>],
-    chain: &mut [u8],
-) -> Result<bool, AllocError>
+    blocks: Blocks,
+) -> Option<[u8; 16]>
     requires size { C.size ≡ size }
     requires some { 1 ≤ size }
     requires fits { size ≤ 16 }
-    requires chain { length chain.old ≡ size }
+    requires used { blocks.used ≤ size }
 {
-    let mut block = [0; 16];
+    let Blocks {
+        chain: mut code,
+        mut block,
+        used,
+        ..
+    } = blocks;
+    let chain = &mut code[..size];
     let block = &mut block[..size];
-    let mut out = Vec::new(alloc);
-    let used = convert_all(alloc, step, chain, block, pieces, &mut out)?;
     if name == "cmac" {
         finish_cmac(&step.cipher, chain, block, used);
-        return Ok(true);
+        return Some(code);
     }
     let mut to = [0; 32];
-    let whole = finish(step, padding, chain, block, used, &mut to).is_some();
-    if whole && name == "mac3" {
+    finish(step, padding, chain, block, used, &mut to)?;
+    if name == "mac3" {
         finish_3(&step.cipher, second, chain);
     }
-    Ok(whole)
+    Some(code)
 }
 
 /// A message's code under a key of AES or DES; algorithm 3 takes two keys of DES.
@@ -275,8 +302,7 @@ pub fn mac(alloc: Global, words: [&str; 4], pieces: &[Vec<u8>]) -> Result<String
     let key = bytes(alloc, key)?;
     mac_by(
         alloc,
-        name,
-        cipher,
+        [name, cipher],
         padding_of(padding),
         key.as_slice(),
         pieces,
@@ -285,47 +311,38 @@ pub fn mac(alloc: Global, words: [&str; 4], pieces: &[Vec<u8>]) -> Result<String
 
 fn mac_by(
     alloc: Global,
-    name: &str,
-    cipher: &str,
+    words: [&str; 2],
     padding: Padding,
     key: &[u8],
     pieces: &[Vec<u8>],
 ) -> Result<String, AllocError> {
+    let [name, cipher] = words;
     match cipher {
         "aes" => match key.len() {
-            16 | 24 | 32 => code(
-                alloc,
-                Aes::new(key),
-                Aes::new(key),
-                16,
-                name,
-                padding,
-                pieces,
-            ),
+            16 | 24 | 32 => {
+                code(
+                    alloc,
+                    (Aes::new(key), Aes::new(key)),
+                    16,
+                    name,
+                    padding,
+                    pieces,
+                )
+            }
             _ => Ok(String::new(alloc)),
         },
         "tdes" => match key.len() {
-            16 | 24 => code(
-                alloc,
-                TripleDes::new(key),
-                TripleDes::new(key),
-                8,
-                name,
-                padding,
-                pieces,
-            ),
+            16 | 24 => {
+                let ciphers = (TripleDes::new(key), TripleDes::new(key));
+                code(alloc, ciphers, 8, name, padding, pieces)
+            }
             _ => Ok(String::new(alloc)),
         },
         _ => match <[u8; 16]>::try_from(key) {
-            Ok(key) => code(
-                alloc,
-                Des::new(&half(&key, 0)),
-                Des::new(&half(&key, 8)),
-                8,
-                name,
-                padding,
-                pieces,
-            ),
+            Ok(key) => {
+                let ciphers = (Des::new(&half(&key, 0)), Des::new(&half(&key, 8)));
+                code(alloc, ciphers, 8, name, padding, pieces)
+            }
             Err(_) => Ok(String::new(alloc)),
         },
     }
