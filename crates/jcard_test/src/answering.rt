@@ -284,11 +284,9 @@ fn told_of<'n>(
     if !row.swept {
         return Ok(None);
     }
-    match new_card(alloc, plan, words) {
-        Ok(store) => match told_of_sweep(alloc, &store, before, row, plan.budget) {
-            Ok(found) => Ok(found),
-            Err(AllocError) => Err(Fault::NoMemory),
-        },
-        Err(fault) => Err(fault),
+    let store = new_card(alloc, plan, words)?;
+    match told_of_sweep(alloc, &store, before, row, plan.budget) {
+        Ok(found) => Ok(found),
+        Err(AllocError) => Err(Fault::NoMemory),
     }
 }

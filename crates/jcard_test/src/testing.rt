@@ -58,10 +58,8 @@ fn test_by<'n, D: Disk, W: TextOut, T: Timer + Remarks>(
     ensures { Does D.does W.contents W.failures disk.old disk.new out.old out.new result
         (IsTestBy plan.now (names_of names.now) asked.entry) }
 {
-    match files_read(disk, names) {
-        Ok(read) => test_read(disk, &read, plan, asked, out, timer),
-        Err(fault) => Err(fault),
-    }
+    let read = files_read(disk, names)?;
+    test_read(disk, &read, plan, asked, out, timer)
 }
 
 // Does so with files that were read: the report for build servers replaces none of them.
