@@ -98,8 +98,7 @@ pub fn util_set_short<S: WordStore>(
 {
     let word = short_argument(args, 2)?.cast_unsigned();
     let to = two_of(args, memory, linked)?;
-    let bytes = [(word / 256) as u8, (word % 256) as u8];
-    memory.set_bytes(to.array, to.start, &bytes)?;
+    memory.set_two_bytes(to.array, to.start, (word / 256) as u8, (word % 256) as u8)?;
     Ok(short(end_of(&to)))
 }
 

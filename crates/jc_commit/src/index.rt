@@ -1,5 +1,5 @@
 //! The entries that count, in the order of the addresses that they name.
-ghost use Rattle.std.specs.Prelude.{◌≡◌, ◌<◌, ◌≤◌, ◌+◌, ◌*◌, ◌^◌, ◌==◌, length, insert, IfSome, MatchResult};
+ghost use Rattle.std.specs.Prelude.{◌≡◌, ◌<◌, ◌≤◌, ◌+◌, ◌*◌, ◌^◌, ◌==◌, [], length, insert, IfSome, MatchResult};
 ghost use Rattle.std.specs.List.{list_any};
 ghost use Rattle.jc_words.specs.Layout.{most_capacity};
 ghost use Rattle.jc_commit.specs.Entries.{AreDistinct};
@@ -24,6 +24,17 @@ pub(crate) fn copy_of(numbers: &EntryIndex) -> EntryIndex
     match copy.try_extend_from_slice(numbers.as_slice()) {
         Ok(()) => copy,
         Err(_) => unreachable!(),
+    }
+}
+
+// Takes all numbers away. Most transactions have one entry, which takes no call.
+#[inline(always)]
+pub(crate) fn clear(numbers: &mut EntryIndex)
+    ensures { numbers.new.items ≡ [] }
+{
+    let _ = numbers.pop();
+    if !numbers.is_empty() {
+        numbers.clear();
     }
 }
 

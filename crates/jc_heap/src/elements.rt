@@ -66,6 +66,15 @@ fn word_at(object: Ref, i: u16) -> u16
     (u32::from(object.address()) + offset) as u16
 }
 
+// The same as a place.
+#[inline(always)]
+#[tactic(auto, unfolding(crate::specs::Heap::cell_address))]
+fn place_at(object: Ref, i: u16) -> usize
+    ensures { result ≡ cell_address object i }
+{
+    object.address() as usize + HEADER as usize + i as usize
+}
+
 // The word of a cell.
 #[inline(always)]
 pub(crate) fn cell_word<S: WordStore>(journal: &Journal<S>, object: Ref, i: u16) -> u16
@@ -89,9 +98,9 @@ pub(crate) fn cell_value<S: WordStore>(journal: &Journal<S>, object: Ref, i: u16
     ensures { result ≡ slice_index (cells (heap_of journal.now.plain) object) i }
 {
     if is_packed(journal, object) {
-        return u16::from(byte_in(journal.read(word_at(object, i / 2)), i));
+        return u16::from(byte_in(journal.read_at(place_at(object, i / 2)), i));
     }
-    journal.read(word_at(object, i))
+    journal.read_at(place_at(object, i))
 }
 
 // Bytes of an array of which two elements stand in a word, from an index on.

@@ -199,6 +199,7 @@ impl<S: WordStore> Heap<S> {
     }
 
     /// Begins a transaction. Nothing is written.
+    #[inline(always)]
     pub fn begin(&mut self)
         requires up { self.old.down ≡ false }
         requires outside { self.old.begun ≡ false }
@@ -211,6 +212,7 @@ impl<S: WordStore> Heap<S> {
     }
 
     /// Ends the transaction, whose changes then stay.
+    #[inline(always)]
     pub fn commit(&mut self) -> Result<(), StoreDown>
         requires up { self.old.down ≡ false }
         requires inside { self.old.begun ≡ true }

@@ -25,7 +25,7 @@ fn area_place<S: WordStore>(journal: &Journal<S>, at: u16, word: u16) -> u16
     if word / 256 == 0 {
         return 0;
     }
-    journal.read(at + HEADER)
+    journal.read_at(at as usize + HEADER as usize)
 }
 
 /// What the header of an object says.
@@ -41,12 +41,13 @@ pub fn facts_at<S: WordStore>(journal: &Journal<S>, object: Ref) -> Facts
     let at = object.address();
     let word = journal.read(at);
     let place = area_place(journal, at, word);
+    let first = at as usize;
     Facts {
         kind: Kind::of(word % 256),
         event: event_of_number(word / 256),
-        class: journal.read(at + 1),
-        owner: journal.read(at + 2),
-        length: journal.read(at + LENGTH),
+        class: journal.read_at(first + 1),
+        owner: journal.read_at(first + 2),
+        length: journal.read_at(first + LENGTH as usize),
         place,
         packed: is_packed_header(word),
     }

@@ -28,15 +28,15 @@ use jc_words::WordStore;
 use jc_world::contexts::is_own;
 use jc_world::objects::is_instance;
 
-// A reference names an object. Its header is read after this, so that what is not asked of it is not decoded.
+/// A reference names an object that is known at once. Its header is read after this, so that what is not asked of it is not decoded.
 #[inline(always)]
 #[tactic(auto, unfolding(jc_world::specs::Objects::object_at))]
-fn names_object<S: WordStore>(reference: Ref, memory: &Memory<S>) -> bool
+pub(crate) fn names_object<S: WordStore>(reference: Ref, memory: &Memory<S>) -> bool
     requires up { memory.now.heap.down ≡ false }
     ensures { result ≡ true → IsObject memory.now.heap.now reference
         × (object_at memory.now reference ≡ Ok (facts memory.now.heap.now reference)) }
 {
-    !reference.is_null() && memory.header(reference).is_some()
+    !reference.is_null() && memory.knows(reference)
 }
 
 // The value of a field in the object that a reference names, as it comes on the stack, where the object is persistent, of the very class of the

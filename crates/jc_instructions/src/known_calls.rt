@@ -16,6 +16,7 @@ ghost use Rattle.jc_instructions.specs.Invoke.{ChoosesOfPlatform, IsFoundAt, IsF
 ghost use Rattle.jc_instructions.specs.Invoke.{class_of, header_of, interface_access, is_null_on};
 ghost use Rattle.jc_instructions.specs.Invoke.{receiver_of, receiver_on, virtual_by};
 
+use crate::at_once::names_object;
 use crate::enter::Callee;
 use crate::invoke::{class_of, interface_access, receiver_on};
 use crate::method_component::method_component_of;
@@ -71,6 +72,27 @@ fn other_found_below(
     found_below(own, class, token, method, linked)
 }
 
+// On instances of a class it finds this very method: the class is the one that the entry names, or has the method of it at once.
+#[tactic(auto, using(crate::proofs::Same::method_itself, jc_world::proofs::Below::below_same, jc_linker::proofs::Inheriting::inherited_below, jc_linker::proofs::Inheriting::inherited_found))]
+#[inline(always)]
+fn finds_named(
+    own: ClassWord,
+    class: ClassWord,
+    token: VirtualToken,
+    method: PlatformMethod,
+    linked: &Linked,
+) -> bool
+    ensures { result ≡ true → IsFoundAt linked.now own class token method method }
+{
+    if class == own {
+        return true;
+    }
+    match token {
+        VirtualToken::Public(token) => linked.inherits_at_once(own, class, token),
+        VirtualToken::PackageVisible(_) => false,
+    }
+}
+
 // The same where the class may be the one that the entry names.
 #[tactic(auto, using(crate::proofs::Same::method_itself, jc_world::proofs::Below::below_same, jc_linker::proofs::Inheriting::inherited_below, jc_linker::proofs::Inheriting::inherited_found))]
 #[inline(always)]
@@ -111,6 +133,21 @@ fn is_service<S: WordStore>(facts: Facts, memory: &Memory<S>) -> bool
         _ => false,
     };
     !runs_for_runtime && facts.owner().0 == 0 && !is_cleared
+}
+
+// The owner for whom a virtual call on an object with this header runs, where that is another one than the caller's, if the object is the caller's or a
+// service; else nothing.
+#[inline(always)]
+fn near_owner<S: WordStore>(header: Facts, memory: &Memory<S>) -> Option<Option<Owner>>
+    ensures { (p : Packages) → IfSome result (IsSwitchedTo VirtualCall p memory.now header) }
+{
+    if is_own(header, memory) {
+        return Some(None);
+    }
+    if is_service(header, memory) {
+        return Some(Some(Owner::of(header.owner())));
+    }
+    None
 }
 
 // The owner for whom a virtual call on an object with this header runs, where that is another one than the caller's; nothing where a rule
@@ -188,6 +225,76 @@ fn virtual_of_platform<'f, S: WordStore>(
     }
     let _owner = native_owner(facts, receiver, memory, linked)?;
     Some((found, arguments))
+}
+
+// The arguments of a virtual call whose entry names a method of the platform with this many cells, where it runs this very method on an object that
+// is the caller's or a service, and where that is known without a call out of line; else nothing.
+#[tactic(auto, unfolding(crate::specs::Invoke::invokevirtual, crate::specs::Invoke::arguments_of, crate::specs::Invoke::receiver_of, crate::specs::Parameters::fits))]
+#[inline(always)]
+fn named_of_platform<'f, S: WordStore>(
+    class: ClassWord,
+    token: VirtualToken,
+    method: PlatformMethod,
+    count: u8,
+    frames: &'f Frames,
+    memory: &Memory<S>,
+    linked: &Linked,
+) -> Option<&'f [Cell]>
+    requires up { memory.now.heap.down ≡ false }
+    requires cells { count ≡ argument_cells method }
+    ensures chosen { IfSome result (λ r. ChoosesOfPlatform (invokevirtual class token
+        (Native method) linked.now frames.entry.now.current.stack memory.now) method) }
+    ensures arguments { IfSome result (λ r. arguments_on count frames.entry.now.current.stack
+        ≡ Some r.now) }
+{
+    let Some((arguments, receiver)) = arguments_with_receiver(count, frames) else {
+        return None;
+    };
+    if !names_object(receiver, memory) {
+        return None;
+    }
+    let facts = memory.facts(receiver);
+    if !finds_named(class_of(facts, linked), class, token, method, linked) {
+        return None;
+    }
+    if !native_fits(method, frames, memory, linked) {
+        return None;
+    }
+    let _owner = near_owner(facts, memory)?;
+    Some(arguments)
+}
+
+/// The method of the platform that this entry names, how many cells its arguments have, and these, where a virtual call by the entry runs this very
+/// method and no more has to be asked than of most calls; else, and of other entries, nothing.
+#[inline(always)]
+pub fn named_method_of_platform<'f, S: WordStore>(
+    entry: &Target,
+    frames: &'f Frames,
+    memory: &Memory<S>,
+    linked: &Linked,
+) -> Option<(PlatformMethod, u8, &'f [Cell])>
+    requires up { memory.now.heap.down ≡ false }
+    ensures chosen { IfSome result (λ r. ChoosesOfPlatform (virtual_by
+        (Some entry.now) linked.now frames.entry.now.current.stack memory.now) r.0) }
+    ensures cells { IfSome result (λ r. r.1 ≡ argument_cells r.0) }
+    ensures arguments { IfSome result (λ r. arguments_on r.1 frames.entry.now.current.stack
+        ≡ Some r.2.now) }
+{
+    match entry {
+        Target::VirtualMethod {
+            class,
+            token,
+            method: Method::Native(method),
+        } => {
+            let count = method.argument_cells();
+            let known = named_of_platform(*class, *token, *method, count, frames, memory, linked);
+            let Some(arguments) = known else {
+                return None;
+            };
+            Some((*method, count, arguments))
+        }
+        _ => None,
+    }
 }
 
 /// The method of the platform that a virtual call by this entry runs, how many cells its arguments have, and these, where that is known at once;

@@ -72,6 +72,7 @@ pub(crate) fn getstatic<S: WordStore>(
 }
 
 // A word of an image is set.
+#[inline(always)]
 fn set_word<S: WordStore>(
     word: &ImageWord,
     v: u16,
@@ -131,6 +132,7 @@ fn set_pair<S: WordStore>(
 
 // A static field is set to this word.
 #[tactic(auto, unfolding(crate::specs::StaticFields::static_write))]
+#[inline(never)]
 fn set_static<S: WordStore>(
     of_type: ValueType,
     field: FieldOfImage,

@@ -240,10 +240,10 @@ impl Linked {
         self.inherits_at_once(own, class, token) || self.scope().inherits_method(own, class, token)
     }
 
-    // The same where the first class is a loaded one right below the second one.
+    /// The same where the first class is a loaded one right below the second one: no call is needed to know it.
     #[tactic(auto, using(crate::proofs::AtOnce::inherited_at_once))]
     #[inline(always)]
-    fn inherits_at_once(&self, own: ClassWord, class: ClassWord, token: u8) -> bool
+    pub fn inherits_at_once(&self, own: ClassWord, class: ClassWord, token: u8) -> bool
         ensures { result ≡ true → inherits_method self.now own class token ≡ true }
     {
         let Some(loaded) = self.loaded_class(own) else {

@@ -47,6 +47,7 @@ impl<S: WordStore> Memory<S> {
     }
 
     /// Sends bytes, after those that were sent already.
+    #[inline(always)]
     pub fn send(&mut self, bytes: &[u8])
         requires { length self.old.sent + length bytes.now ≤ MOST_SENT }
         ensures { self.new ≡ apply_effect (SendBytes bytes.now) self.old }
@@ -55,6 +56,7 @@ impl<S: WordStore> Memory<S> {
     }
 
     // Sends at most `MOST` bytes of an object from an index on, after those that were sent already.
+    #[inline(always)]
     fn send_piece<const MOST: usize>(&mut self, object: Ref, i: u16, count: u16)
         requires up { self.old.heap.down ≡ false }
         requires there { IsObject self.old.heap.now object }

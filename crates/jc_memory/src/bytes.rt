@@ -1,5 +1,5 @@
 //! Runs of cells.
-ghost use Rattle.std.specs.Prelude.{◌≡◌, ◌+◌, ◌≤◌, ◌<◌, ◌%◌, false, length, map};
+ghost use Rattle.std.specs.Prelude.{◌≡◌, ◌+◌, ◌≤◌, ◌<◌, ◌%◌, ◌∷◌, [], false, length, map};
 ghost use Rattle.std.specs.List.{range_with_len};
 ghost use Rattle.jc_transient.specs.State.{area_size, cell_at};
 ghost use Rattle.jc_heap.specs.Heap.{IsObject, facts};
@@ -131,6 +131,45 @@ impl<S: WordStore> Memory<S> {
             }
             Some(event) => {
                 self.ram.put_bytes(event, facts.place + i, bytes);
+                Ok(())
+            }
+        }
+    }
+
+    // Sets two cells to these bytes likewise, out of line.
+    #[inline(never)]
+    fn set_pair(&mut self, object: Ref, i: u16, first: u8, second: u8) -> Result<(), ChangeRefusal>
+        requires up { self.old.heap.down ≡ false }
+        requires there { IsObject self.old.heap.now object }
+        requires cells { i + 2 ≤ (facts self.old.heap.now object).length }
+        requires values { MayHaveAll self.old object (first ∷ second ∷ []) }
+        ensures { Executes (cells_store self.old object i (first ∷ second ∷ [])) self.old
+            (after_change result self.new) }
+    {
+        self.set_bytes(object, i, &[first, second])
+    }
+
+    /// Sets two cells of an object to bytes from an index on, likewise. Of a transient one nothing is called out of line.
+    #[inline(always)]
+    pub fn set_two_bytes(
+        &mut self,
+        object: Ref,
+        i: u16,
+        first: u8,
+        second: u8,
+    ) -> Result<(), ChangeRefusal>
+        requires up { self.old.heap.down ≡ false }
+        requires there { IsObject self.old.heap.now object }
+        requires cells { i + 2 ≤ (facts self.old.heap.now object).length }
+        requires values { MayHaveAll self.old object (first ∷ second ∷ []) }
+        ensures { Executes (cells_store self.old object i (first ∷ second ∷ [])) self.old
+            (after_change result self.new) }
+    {
+        let facts = self.facts(object);
+        match facts.event {
+            None => self.set_pair(object, i, first, second),
+            Some(event) => {
+                self.ram.put_bytes(event, facts.place + i, &[first, second]);
                 Ok(())
             }
         }

@@ -61,6 +61,7 @@ impl<const MOST: usize> Kept<MOST> {
     }
 
     /// Keeps bytes after those that are kept already.
+    #[inline(always)]
     pub fn append(&mut self, bytes: &[u8])
         requires { length self.old + length bytes.now ≤ MOST }
         ensures { self.new ≡ self.old ++ bytes.now }

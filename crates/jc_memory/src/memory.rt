@@ -1,5 +1,5 @@
 //! A memory: its parts, and what headers say.
-ghost use Rattle.std.specs.Prelude.{◌≡◌, ◌<◌, [], false, IfOk, IfSome, slice_index};
+ghost use Rattle.std.specs.Prelude.{◌≡◌, ◌<◌, [], false, true, IfOk, IfSome, slice_index};
 ghost use Rattle.jc_heap.specs.Heap.{IsObject, area_sizes};
 ghost use Rattle.jc_heap.specs.WholeHeap.{IsConsistent};
 ghost use Rattle.jc_transient.specs.State.{HasSizes};
@@ -193,6 +193,15 @@ impl<S: WordStore> Memory<S> {
         } else {
             None
         }
+    }
+
+    /// Whether an object is known to stand at an address: it is asked without a walk over the heap.
+    #[inline(always)]
+    pub fn knows(&self, reference: Ref) -> bool
+        requires up { self.now.heap.down ≡ false }
+        ensures { result ≡ true → IsObject self.now.heap.now reference }
+    {
+        self.marks.has(reference)
     }
 
     /// What an object's header says.

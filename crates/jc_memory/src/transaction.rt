@@ -18,6 +18,7 @@ use jc_words::{StoreDown, WordStore};
 
 impl<S: WordStore> Memory<S> {
     /// Begins a transaction: what is changed from here on is taken back unless it is committed.
+    #[inline(always)]
     pub fn begin(&mut self)
         requires up { self.old.heap.down ≡ false }
         requires outside { self.old.heap.begun ≡ false }
@@ -27,6 +28,7 @@ impl<S: WordStore> Memory<S> {
     }
 
     /// Ends the transaction, whose changes then stay.
+    #[inline(always)]
     pub fn commit(&mut self) -> Result<(), StoreDown>
         requires up { self.old.heap.down ≡ false }
         requires inside { self.old.heap.begun ≡ true }
@@ -51,6 +53,7 @@ impl<S: WordStore> Memory<S> {
     }
 
     /// Writes a place: a word of a static image or of the registry, or a cell of a persistent object.
+    #[inline(always)]
     pub fn write(&mut self, place: Place, v: u16) -> Result<(), ChangeRefusal>
         requires up { self.old.heap.down ≡ false }
         requires there { HasPlace self.old.heap.now place }

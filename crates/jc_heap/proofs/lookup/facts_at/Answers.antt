@@ -22,38 +22,38 @@ area_place-place-requires-clause-there g c =
     c.requires.there c.address-at.ensures in
     λ n. s.behind (λ e. n (ap (λ w. w / 256) c.read-word.ensures ∙ e))
 
-pub read-requires : goal.read-requires
-read-requires g c =
+pub read_at-requires : goal.read_at-requires
+read_at-requires g c =
     let s : Spot c.args.journal.now c.address-at.result = spot_at c.args.journal.now c.args.object c.address-at.result c.requires.laid c.requires.small
     c.requires.there c.address-at.ensures in
     readable (length c.args.journal.now.plain) (c.address-at.result + 1) (omega (arith, s.high)) (omega (arith, s.low))
 
-pub overflow_add-at : goal.overflow_add-at
-overflow_add-at g c =
+pub overflow_add-first : goal.overflow_add-first
+overflow_add-first g c =
     let s : Spot c.args.journal.now c.address-at.result = spot_at c.args.journal.now c.args.object c.address-at.result c.requires.laid c.requires.small
     c.requires.there c.address-at.ensures in
     omega (arith, s.high, s.small)
 
-pub read-requires-2 : goal.read-requires-2
-read-requires-2 g c =
+pub read_at-requires-2 : goal.read_at-requires-2
+read_at-requires-2 g c =
     let s : Spot c.args.journal.now c.address-at.result = spot_at c.args.journal.now c.args.object c.address-at.result c.requires.laid c.requires.small
     c.requires.there c.address-at.ensures in
     readable (length c.args.journal.now.plain) (c.address-at.result + 2) (omega (arith, s.high)) (omega (arith, s.low))
 
-pub overflow_add-at-2 : goal.overflow_add-at-2
-overflow_add-at-2 g c =
+pub overflow_add-first-2 : goal.overflow_add-first-2
+overflow_add-first-2 g c =
     let s : Spot c.args.journal.now c.address-at.result = spot_at c.args.journal.now c.args.object c.address-at.result c.requires.laid c.requires.small
     c.requires.there c.address-at.ensures in
     omega (arith, s.high, s.small)
 
-pub read-requires-3 : goal.read-requires-3
-read-requires-3 g c =
+pub read_at-requires-3 : goal.read_at-requires-3
+read_at-requires-3 g c =
     let s : Spot c.args.journal.now c.address-at.result = spot_at c.args.journal.now c.args.object c.address-at.result c.requires.laid c.requires.small
     c.requires.there c.address-at.ensures in
     readable (length c.args.journal.now.plain) (c.address-at.result + 3) (omega (arith, s.high)) (omega (arith, s.low))
 
-pub overflow_add-at-3 : goal.overflow_add-at-3
-overflow_add-at-3 g c =
+pub overflow_add-first-3 : goal.overflow_add-first-3
+overflow_add-first-3 g c =
     let s : Spot c.args.journal.now c.address-at.result = spot_at c.args.journal.now c.args.object c.address-at.result c.requires.laid c.requires.small
     c.requires.there c.address-at.ensures in
     omega (arith, s.high, s.small)
@@ -62,9 +62,9 @@ pub returns-clause-facts : goal.returns-clause-facts
 returns-clause-facts g c =
     let there : IsObject (heap_of c.args.journal.now.plain) c.address-at.result = subst (IsObject (heap_of c.args.journal.now.plain))
     (sym c.address-at.ensures) c.requires.there in
-    facts_built c.args.journal.now.plain c.address-at.result c.requires.laid there c.read-word.result c.of.result c.event_of_number.result c.read.result
-    c.read-2.result c.read-3.result c.area_place-place.result c.is_packed_header.result
-    c.read-word.ensures c.of.ensures c.event_of_number.ensures c.read.ensures c.read-2.ensures c.read-3.ensures c.area_place-place.ensures c.is_packed_header.ensures
+    facts_built c.args.journal.now.plain c.address-at.result c.requires.laid there c.read-word.result c.of.result c.event_of_number.result c.read_at.result
+    c.read_at-2.result c.read_at-3.result c.area_place-place.result c.is_packed_header.result
+    c.read-word.ensures c.of.ensures c.event_of_number.ensures c.read_at.ensures c.read_at-2.ensures c.read_at-3.ensures c.area_place-place.ensures c.is_packed_header.ensures
     ∙ ap (facts (heap_of c.args.journal.now.plain)) c.address-at.ensures
 
 pub returns-clause-cells : goal.returns-clause-cells
@@ -74,4 +74,4 @@ returns-clause-cells g c = λ e.
     let zero : c.read-word.result / 256 ≡ 0 = persistent_of (c.read-word.result / 256) (sym c.event_of_number.ensures ∙ e) in
     ap (λ r. length (cells (heap_of c.args.journal.now.plain) r)) (sym c.address-at.ensures)
     ∙ cells_are c.args.journal.now.plain c.address-at.result c.requires.laid there c.requires.small (ap (λ w. w / 256) (sym c.read-word.ensures) ∙ zero)
-    ∙ sym c.read-3.ensures
+    ∙ sym c.read_at-3.ensures
