@@ -63,6 +63,7 @@ fn exception_get_reason<S: WordStore>(
 }
 
 // The exception of a class, with this reason.
+#[inline(always)]
 fn exception_of(class: PlatformClass, reason: i16) -> Exception
     ensures { result ≡ of_class class reason }
 {
@@ -81,6 +82,7 @@ fn exception_of(class: PlatformClass, reason: i16) -> Exception
 
 // `throwIt` of each of these classes: throws the runtime environment's own instance with this reason.
 #[tactic(auto, unfolding(crate::specs::Exceptions::exception_throw_it))]
+#[inline(always)]
 fn exception_throw_it<S: WordStore>(
     class: PlatformClass,
     args: &[Cell],
@@ -94,6 +96,7 @@ fn exception_throw_it<S: WordStore>(
 }
 
 // A call of a method of an exception, by what it does with its receiver, its class, and whether it is given a reason.
+#[inline(always)]
 fn call_by_row<S: WordStore>(
     receiver: Receiver,
     class: PlatformClass,
@@ -121,6 +124,7 @@ fn call_by_row<S: WordStore>(
 
 /// A call of a method of an exception with a reason: its row says what it does, so a new exception needs nothing here.
 #[tactic(auto, unfolding(crate::specs::Exceptions::exception_call))]
+#[inline(always)]
 pub fn call_exception<S: WordStore>(
     method: ExceptionsMethod,
     args: &[Cell],

@@ -79,6 +79,7 @@ fn catch_by_handler(
 
 // The same for the handler that begins at a place of the component.
 #[tactic(auto, unfolding(crate::specs::Catch::catch_by_entry))]
+#[inline(always)]
 fn try_at(
     thrown: ClassWord,
     origin: &Origin,
@@ -99,6 +100,7 @@ fn try_at(
 
 // What the handlers of a component do with it, the first that catches it before all others.
 #[tactic(auto, using(crate::proofs::Handlers::more))]
+#[inline(always)]
 fn catch_in_component(
     thrown: ClassWord,
     origin: &Origin,
@@ -123,6 +125,7 @@ fn catch_in_component(
 /// What the handlers of a method do with an exception of this class that is thrown by the instruction at
 /// this place. They are tried in their order.
 #[tactic(auto, unfolding(crate::specs::Catch::catch_in_method))]
+#[inline(always)]
 pub fn catch_in_method(
     thrown: ClassWord,
     origin: &Origin,

@@ -6,7 +6,6 @@ ghost use Rattle.jc_world.specs.Instructions.{after_instruction};
 ghost use Rattle.jc_instructions.specs.MethodReturn.{method_return, return_to_caller};
 
 use jc_frames::instr::ReturnOp;
-use jc_frames::return_ops::pop_result;
 use jc_frames::{Cell, Frames, Outcome};
 use jc_memory::Memory;
 use jc_words::WordStore;
@@ -43,6 +42,15 @@ pub fn return_to_caller<S: WordStore>(
     ensures { Executes (method_return how frames.old memory.old) memory.old
         (after_instruction result frames.new memory.new) }
 {
-    let value = pop_result(how, frames)?;
-    hand_over(value, frames, memory)
+    match how {
+        ReturnOp::Return => hand_over(None, frames, memory),
+        ReturnOp::Sreturn => {
+            let value = frames.pop_short()?;
+            hand_over(Some(Cell::Short(value)), frames, memory)
+        }
+        ReturnOp::Areturn => {
+            let value = frames.pop_reference()?;
+            hand_over(Some(Cell::Reference(value)), frames, memory)
+        }
+    }
 }

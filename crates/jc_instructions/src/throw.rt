@@ -5,7 +5,7 @@ ghost use Rattle.jc_frames.specs.Exceptions.{class_of_exception};
 ghost use Rattle.jc_frames.specs.Frames.{unless_fault};
 ghost use Rattle.jc_memory.specs.Programs.{Executes};
 ghost use Rattle.jc_world.specs.Instructions.{after_instruction};
-ghost use Rattle.jc_instructions.specs.Throw.{has_reason_cell, handler_entry, athrow, exception_throw, object_unwind, unwind};
+ghost use Rattle.jc_instructions.specs.Throw.{has_reason_cell, handler_entry, athrow, callers_unwind, exception_throw, object_unwind, unwind};
 ghost use Rattle.jc_instructions.specs.Throw.{with_reason};
 
 use crate::catch::{HandlerResult, catch_in_method};
@@ -34,8 +34,43 @@ fn handle(thrown: Ref, target: u16, frames: &mut Frames) -> Result<(), CodeFault
     frames.try_push(Cell::Reference(thrown))
 }
 
-// An exception of this class is thrown by the instruction at a place of the frame that runs.
+// An exception of this class is thrown in the callers, the nearest first, since nothing catches it in the frame that runs.
+#[inline(never)]
+fn unwind_callers<S: WordStore>(
+    class: ClassWord,
+    thrown: Ref,
+    frames: &mut Frames,
+    memory: &mut Memory<S>,
+    linked: &Linked,
+) -> Result<(), StepExit>
+    ensures { Executes (callers_unwind linked.now class thrown frames.old.callers memory.old)
+        memory.old (after_instruction result frames.new memory.new) }
+{
+    let Some(resume) = frames.leave() else {
+        return Err(StepExit::End(Outcome::Thrown(thrown)));
+    };
+    let call = resume.call;
+    let place = resume.place;
+    memory.set_owners(resume.active, resume.previous);
+    if let CallKind::ShareableRequest = call {
+        memory.notes().forget();
+        frames.try_push(Cell::Reference(Ref::null()))?;
+        return Ok(());
+    }
+    match catch_in_method(class, &frames.origin(), place, linked) {
+        HandlerResult::Caught(target) => {
+            memory.notes().forget();
+            handle(thrown, target, frames)?;
+            Ok(())
+        }
+        HandlerResult::CodeFault => Err(StepExit::End(Outcome::Fault)),
+        HandlerResult::NotCaught => unwind_callers(class, thrown, frames, memory, linked),
+    }
+}
+
+// It is thrown by the instruction at a place of the frame that runs.
 #[tactic(auto, unfolding(crate::specs::Throw::unwind))]
+#[inline(always)]
 fn unwind<S: WordStore>(
     class: ClassWord,
     thrown: Ref,
@@ -54,27 +89,13 @@ fn unwind<S: WordStore>(
             Ok(())
         }
         HandlerResult::CodeFault => Err(StepExit::End(Outcome::Fault)),
-        HandlerResult::NotCaught => {
-            let Some(resume) = frames.leave() else {
-                return Err(StepExit::End(Outcome::Thrown(thrown)));
-            };
-            let call = resume.call;
-            let place = resume.place;
-            memory.set_owners(resume.active, resume.previous);
-            match call {
-                CallKind::Instruction => unwind(class, thrown, place, frames, memory, linked),
-                CallKind::ShareableRequest => {
-                    memory.notes().forget();
-                    frames.try_push(Cell::Reference(Ref::null()))?;
-                    Ok(())
-                }
-            }
-        }
+        HandlerResult::NotCaught => unwind_callers(class, thrown, frames, memory, linked),
     }
 }
 
 // An object is thrown by the instruction at a place.
 #[tactic(auto, unfolding(crate::specs::Throw::object_unwind))]
+#[inline(always)]
 fn throw_object<S: WordStore>(
     thrown: Ref,
     place: u16,

@@ -42,25 +42,25 @@ module _ (attack : Option Attack) (lent code : List ℕ) (p : Packages) (s t : F
   unfolding run_of machine_step
   one_pauses pause at e = rw (away_goes attack n lent p s away, ← own, ← e, ← at) refl
 
-one_left : (limit turn more : ℕ) → turn < limit → limit - turn + more ≡ suc (limit - (turn + 1) + more)
-one_left limit turn more lt = omega (arith, lt)
+one_left : (left more : ℕ) → 0 < left → left + more ≡ suc (left - 1 + more)
+one_left left more lt = omega (arith, lt)
 
--- a turn after this many, of a run of this many steps more
+-- a turn of a run of this many steps, after which this many more may follow
 module _ (attack : Option Attack) (lent code : List ℕ) (p : Packages) (s t : Frames) (m : MemoryState)
-    (own : code ≡ code_of lent p s.current.origin.package_number) (limit turn more : ℕ) (lt : turn < limit)
-    (away : IsAway attack (limit + more) more) where
-  away_here : IsAway attack (suc (limit - (turn + 1) + more)) (limit - (turn + 1) + more)
-  away_here = away_less attack (limit + more) more (suc (limit - (turn + 1) + more)) (limit - (turn + 1) + more) (omega (arith, lt)) (omega arith) away
+    (own : code ≡ code_of lent p s.current.origin.package_number) (left more : ℕ) (lt : 0 < left)
+    (away : IsAway attack (left + more) more) where
+  away_here : IsAway attack (suc (left - 1 + more)) (left - 1 + more)
+  away_here = away_less attack (left + more) more (suc (left - 1 + more)) (left - 1 + more) (omega (arith, lt)) (omega arith) away
 
   pub goes_on : continue_with t ≡ instruction_step code p s m
-      → run_of attack (limit - turn + more) lent p s m ≡ run_of attack (limit - (turn + 1) + more) lent p t m
-  goes_on e = ap (λ n. run_of attack n lent p s m) (one_left limit turn more lt)
-      ∙ one_goes attack lent code p s t m own (limit - (turn + 1) + more) away_here e
+      → run_of attack (left + more) lent p s m ≡ run_of attack (left - 1 + more) lent p t m
+  goes_on e = ap (λ n. run_of attack n lent p s m) (one_left left more lt)
+      ∙ one_goes attack lent code p s t m own (left - 1 + more) away_here e
 
   pub pauses : (pause : PausedStep) → pause.place ≡ s.current.place → paused_rest pause.why pause.place p t m ≡ instruction_step code p s m
-      → run_of attack (limit - turn + more) lent p s m ≡ run_behind (Some (limit - (turn + 1), pause)) attack more lent p t m
-  pauses pause at e = ap (λ n. run_of attack n lent p s m) (one_left limit turn more lt)
-      ∙ one_pauses attack lent code p s t m own (limit - (turn + 1) + more) away_here pause at e
+      → run_of attack (left + more) lent p s m ≡ run_behind (Some (left - 1, pause)) attack more lent p t m
+  pauses pause at e = ap (λ n. run_of attack n lent p s m) (one_left left more lt)
+      ∙ one_pauses attack lent code p s t m own (left - 1 + more) away_here pause at e
 
 -- an instruction that is done at once needed more than frames
 pub needed : (why : FramesExit) (T : Type 0) (place : ℕ) (p : Packages) (s t : Frames) (m : MemoryState) → paused_rest why place p s m ≡ continue_with t

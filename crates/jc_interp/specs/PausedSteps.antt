@@ -30,6 +30,17 @@ memory_instruction (Object operation) place p s m = object_instruction operation
 memory_instruction (Invoke method) place p s m = invoke_instruction method place p s m
 memory_instruction other place p s m = Finish (Ends Fault)
 
+-- it is neither a return nor a call
+abbrev pub IsOther : Instr → Type 0
+IsOther (Return how) = ⊥
+IsOther (Invoke call) = ⊥
+IsOther other = Unit {0}
+
+-- where an instruction needs more than frames, it is neither a return nor a call
+abbrev pub IsOtherPause : FramesExit → Type 0
+IsOtherPause (Exit stop) = Unit {0}
+IsOtherPause (Needs instr) = IsOther instr
+
 -- this holds where an instruction needs more than frames
 abbrev pub WhereNeeded : FramesExit → Type 0 → Type 0
 WhereNeeded (Exit stop) T = Unit {0}

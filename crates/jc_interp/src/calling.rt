@@ -489,9 +489,9 @@ fn invoke_virtual_other<S: WordStore>(
     invoke_unknown(index, place, frames, memory, linked)
 }
 
-// The same, where most calls are on own instances of the very class that the entry names: of these nothing else is asked.
+// The same in line, where most calls are on own instances of the very class that the entry names: of these nothing else is asked.
 #[tactic(auto, unfolding(crate::specs::Calling::invoke_instruction, jc_instructions::specs::Invoke::method_selection, jc_instructions::specs::Invoke::header_of, jc_instructions::specs::Enter::method_entry))]
-#[inline(never)]
+#[inline(always)]
 fn invoke_virtual_code<S: WordStore>(
     entry: &Target,
     index: u16,
@@ -611,9 +611,9 @@ fn invoke_special<S: WordStore>(
     invoke_special_code(index, place, frames, memory, linked)
 }
 
-// A call of an interface's method, out of line. On an own instance nothing else is asked.
+// A call of an interface's method. On an own instance nothing else is asked.
 #[tactic(auto, unfolding(crate::specs::Calling::invoke_instruction, jc_instructions::specs::Invoke::method_selection, jc_instructions::specs::Invoke::header_of, jc_instructions::specs::Enter::method_entry))]
-#[inline(never)]
+#[inline(always)]
 fn invoke_interface_code<S: WordStore>(
     arguments: u8,
     index: u16,
@@ -673,8 +673,8 @@ fn invoke_interface<S: WordStore>(
     invoke_interface_code(arguments, index, token, place, frames, memory, linked)
 }
 
-/// A call by the instruction at a place. Static calls of methods in bytecode stay in line; what comes after the choice of any other method needs
-/// memory for what the choice hands over, and stands out of line: the loop of all instructions has to stay small enough to stand in one function.
+/// A call by the instruction at a place. Static calls of methods in bytecode stay in line, and so do virtual calls and calls of interfaces' methods
+/// on own instances; what comes after the choice of any other method needs memory for what the choice hands over, and stands out of line.
 #[inline(always)]
 pub(crate) fn invoke_instruction<S: WordStore>(
     invoke: InvokeOp,

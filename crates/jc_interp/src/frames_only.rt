@@ -194,12 +194,14 @@ pub(crate) fn run_in_frames<C, S: WordStore>(
         ≡ run_behind result attack more lent linked.now frames.new memory.now }
     ensures fewer { IfSome result (λ r. r.0 < budget) }
 {
-    for turns in 0..budget {
+    let mut left = budget;
+    while left > 0 {
         if let Err(pause) = step_in_frames::<C>(code, frames) {
             if !read_at_once(&pause.why, frames, memory, linked) {
-                return Some((budget - (turns + 1), pause));
+                return Some((left - 1, pause));
             }
         }
+        left -= 1;
     }
     None
 }

@@ -34,11 +34,11 @@ pub(crate) fn short_header_at(component: &[u8], place: u16) -> Option<Header>
     ensures { IfSome result (λ header. header_in component.now place ≡ Some header) }
 {
     let at = usize::from(place);
-    let first = *component.get(at)?;
+    let second = *component.get(at + 1)?;
+    let first = component[at];
     if first >= 64 {
         return None;
     }
-    let second = *component.get(at + 1)?;
     Some(Header {
         is_abstract: false,
         arguments: second / 16,

@@ -6,14 +6,15 @@ ghost use Rattle.jc_instructions.specs.MethodReturn.{method_return};
 ghost use Rattle.jc_frames.specs.declared.outcome.Outcome.TheVariants.{Fault};
 ghost use Rattle.jc_frames.specs.declared.exceptions.Exception.{Exception};
 ghost use Rattle.jc_world.specs.declared.step_exit.StepExit.TheVariants.{End, Throw};
-ghost use Rattle.jc_memory.specs.Programs.{Executes};
+ghost use Rattle.jc_memory.specs.Programs.{Executes, bind};
 ghost use Rattle.jc_world.specs.Instructions.{after_instruction};
-ghost use Rattle.jc_interp.specs.Step.{code_of, if_had, object_instruction};
-ghost use Rattle.jc_interp.specs.PausedSteps.{EndsStep, step_rest, memory_instruction, paused_rest};
+ghost use Rattle.jc_interp.specs.Calling.{invoke_instruction};
+ghost use Rattle.jc_interp.specs.Step.{code_of, if_had, object_instruction, throw_from};
+ghost use Rattle.jc_interp.specs.PausedSteps.{EndsStep, IsOther, IsOtherPause, step_rest, memory_instruction, paused_rest};
 
 use crate::calling::invoke_instruction;
 use crate::frames_only::{FramesExit, PausedStep};
-use jc_frames::instr::{ArrayOp, Instr, ObjectOp, PrimitiveArray, ReturnOp};
+use jc_frames::instr::{ArrayOp, Instr, InvokeOp, ObjectOp, PrimitiveArray, ReturnOp};
 use jc_frames::{Frames, Outcome};
 use jc_instructions::method_component::method_component_of;
 use jc_instructions::method_return::return_to_caller;
@@ -137,9 +138,10 @@ fn make_reference_array<S: WordStore>(
     Ok(())
 }
 
-// Carries out an instruction at a place, after which the next one stands, if the code has it. What frames alone carry out does not come here.
-// A package has what fields and calls name, so of those in code that was lent there is nothing to ask; each instruction on arrays is an arm of
-// its own, so that it is distinguished from the others only once, and so that no decoded instruction is kept in memory.
+// Carries out an instruction at a place that is neither a return nor a call, after which the next one stands, if the code has it. What frames
+// alone carry out does not come here. A package has what fields name, so of those in code that was lent there is nothing to ask; each
+// instruction on arrays is an arm of its own, so that it is distinguished from the others only once, and so that no decoded instruction is kept
+// in memory.
 #[tactic(auto, unfolding(jc_instructions::specs::ArrayOps::array_instruction))]
 #[inline(always)]
 fn execute<S: WordStore>(
@@ -150,11 +152,11 @@ fn execute<S: WordStore>(
     linked: &Linked,
 ) -> Result<(), StepExit>
     requires up { memory.old.heap.down ≡ false }
+    requires other { IsOther instr.now }
     ensures { Executes (if_had instr.now frames.old (memory_instruction instr.now place linked.now
         frames.old memory.old)) memory.old (after_instruction result frames.new memory.new) }
 {
     match instr {
-        Instr::Return(how) => return_if_had(*how, frames, memory),
         Instr::Field(field) => field_instruction(*field, frames, memory, linked),
         Instr::Array(ArrayOp::Load(of_type)) => {
             in_package(frames)?;
@@ -180,7 +182,7 @@ fn execute<S: WordStore>(
             in_package(frames)?;
             make_or_test(*operation, place, frames, memory, linked)
         }
-        Instr::Invoke(call) => invoke_instruction(*call, place, frames, memory, linked),
+        Instr::Return(_) | Instr::Invoke(_) => unreachable!(),
         _ => Err(StepExit::End(Outcome::Fault)),
     }
 }
@@ -195,6 +197,7 @@ fn resume<S: WordStore>(
     linked: &Linked,
 ) -> Result<(), StepExit>
     requires up { memory.old.heap.down ≡ false }
+    requires other { IsOtherPause why.now }
     ensures { Executes (paused_rest why.now place linked.now frames.old memory.old) memory.old
         (after_instruction result frames.new memory.new) }
 {
@@ -227,8 +230,69 @@ fn throw_at<S: WordStore>(
     }
 }
 
-/// Does what is left of a step at a pause, and throws what it throws. The end of a method throws nothing, so it takes no way out of line.
+// The same in line: what it is given and what it answers have memory of their own.
+#[inline(always)]
+fn throw_exit<S: WordStore>(
+    exit: StepExit,
+    place: u16,
+    frames: &mut Frames,
+    memory: &mut Memory<S>,
+    linked: &Linked,
+) -> Result<(), StepExit>
+    requires up { (e : Exception) → exit ≡ Throw e → memory.old.heap.down ≡ false }
+    ensures { EndsStep (after_instruction (Err exit) frames.old memory.old) place linked.now
+        (after_instruction result frames.new memory.new) }
+{
+    throw_at(exit, place, frames, memory, linked)?;
+    Ok(())
+}
+
+// A call by the instruction at a place, and what it throws is thrown.
 #[tactic(auto, using(jc_memory::proofs::ProgramLemmas::in_two_calls, crate::proofs::StepEnds::ended_step))]
+#[inline(always)]
+fn finish_call<S: WordStore>(
+    call: InvokeOp,
+    place: u16,
+    frames: &mut Frames,
+    memory: &mut Memory<S>,
+    linked: &Linked,
+) -> Result<(), StepExit>
+    requires up { memory.old.heap.down ≡ false }
+    ensures { Executes (bind (invoke_instruction call place linked.now frames.old memory.old)
+        memory.old (λ next v. throw_from place linked.now next v)) memory.old
+        (after_instruction result frames.new memory.new) }
+{
+    match invoke_instruction(call, place, frames, memory, linked) {
+        Ok(()) => Ok(()),
+        Err(exit) => throw_exit(exit, place, frames, memory, linked),
+    }
+}
+
+// Does what is left of a step at a pause that is neither a return nor a call, and throws what it throws.
+#[tactic(auto, using(jc_memory::proofs::ProgramLemmas::in_two_calls, crate::proofs::StepEnds::ended_step))]
+#[inline(always)]
+fn finish_other<S: WordStore>(
+    pause: &PausedStep,
+    frames: &mut Frames,
+    memory: &mut Memory<S>,
+    linked: &Linked,
+) -> Result<(), StepExit>
+    requires up { memory.old.heap.down ≡ false }
+    requires other { IsOtherPause pause.now.why }
+    ensures { Executes (step_rest pause.now linked.now frames.old memory.old) memory.old
+        (after_instruction result frames.new memory.new) }
+{
+    match resume(&pause.why, pause.place, frames, memory, linked) {
+        Ok(()) => Ok(()),
+        Err(exit) => {
+            throw_at(exit, pause.place, frames, memory, linked)?;
+            Ok(())
+        }
+    }
+}
+
+/// Does what is left of a step at a pause, and throws what it throws. The end of a method throws nothing, so it takes no way out of line. Returns
+/// and calls come first, so that they need no memory for what others throw.
 #[inline(always)]
 pub(crate) fn finish<S: WordStore>(
     pause: &PausedStep,
@@ -241,15 +305,13 @@ pub(crate) fn finish<S: WordStore>(
         (after_instruction result frames.new memory.new) }
 {
     if let FramesExit::Needs(instr) = &pause.why {
-        if let Instr::Return(how) = instr {
-            return return_if_had(*how, frames, memory);
+        match instr {
+            Instr::Return(how) => return return_if_had(*how, frames, memory),
+            Instr::Invoke(call) => {
+                return finish_call(*call, pause.place, frames, memory, linked);
+            }
+            _ => {}
         }
     }
-    match resume(&pause.why, pause.place, frames, memory, linked) {
-        Ok(()) => Ok(()),
-        Err(exit) => {
-            throw_at(exit, pause.place, frames, memory, linked)?;
-            Ok(())
-        }
-    }
+    finish_other(pause, frames, memory, linked)
 }
