@@ -1,4 +1,4 @@
-use Rattle.std.proofs.Common.{◌≡◌, ◌-◌, ◌<◌, ℕ, length, slice_index, sym, ap, subst, ◌∙◌, arith}
+use Rattle.std.proofs.Common.{◌-◌, ◌<◌, ℕ, length, slice_index, sym, ap, subst, ◌∙◌, arith}
 use Rattle.jc_commit.proofs.Indexes.{gap_in_none, gap_last}
 use Rattle.jc_commit.proofs.index.find_at_last.Goals as goal
 
