@@ -176,7 +176,6 @@ fn set_cells<S: WordStore>(
 }
 
 // Makes the instance, and sets its cells.
-#[tactic(auto, using(jc_memory::proofs::ProgramLemmas::in_two_steps))]
 fn make_instance<S: WordStore>(
     engine: NewEngine,
     array: Ref,
@@ -206,7 +205,6 @@ fn make_instance<S: WordStore>(
 /// Makes an object of the platform with a state, of whom the code runs for, and returns it. A class that the platform table lacks is a
 /// code fault. All space and room is asked for before: that of the heap for array and instance, then what the array asks for; where there is
 /// none it throws, and nothing is done.
-#[tactic(auto, using(jc_memory::proofs::ProgramLemmas::in_two_steps))]
 pub fn make_engine<S: WordStore>(
     engine: NewEngine,
     memory: &mut Memory<S>,

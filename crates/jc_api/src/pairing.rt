@@ -92,7 +92,6 @@ fn names_both<S: WordStore>(
 }
 
 // The second is made, if it is new, and named beside the first.
-#[tactic(auto, using(jc_memory::proofs::ProgramLemmas::in_two_calls))]
 fn names_second<S: WordStore>(
     pair: &NewPair,
     first: Ref,
@@ -113,7 +112,6 @@ fn names_second<S: WordStore>(
 /// Makes the receiver of a call, an instance of the class, name two objects: each is an argument, or is made as `make_engine` makes it, one
 /// after the other, with its refusals. Where the second is refused nothing names the first. Number and references are set as one change;
 /// where the transaction has no room for them it throws, and the receiver stays as it was.
-#[tactic(auto, using(jc_memory::proofs::ProgramLemmas::in_two_calls))]
 pub fn make_pair<S: WordStore>(
     pair: &NewPair,
     args: &[Cell],

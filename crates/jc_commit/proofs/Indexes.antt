@@ -30,6 +30,37 @@ stands_named l w numbers n a i index found =
     list_any_at (λ x. x == a) (named_by l w n) k 0 (omega (arith, below, length-named_by l w n))
     (eq-eqb (get_or (named_by l w n) k 0) a (get_or-named_by l w n k 0 below ∙ found.names))
 
+-- entries before a lower one are lower, those behind a higher one are higher
+pub lower_to : (l : Log) (w numbers : List ℕ) (n a m : ℕ) → IsIndexOf l w n numbers → m < length numbers → address_at l w (slice_index numbers m) < a
+    → (k : ℕ) → k ≤ m → address_at l w (slice_index numbers k) < a
+lower_to l w numbers n a m index within lower k to = elim (cases_lt k m) [
+  | inl before ↦ let rising = index.rising k m before within in omega (arith, rising, lower)
+  | inr there ↦ subst (λ (j : ℕ). address_at l w (slice_index numbers j) < a) (omega (arith, there, to)) lower
+]
+
+pub higher_from : (l : Log) (w numbers : List ℕ) (n a m : ℕ) → IsIndexOf l w n numbers → a < address_at l w (slice_index numbers m)
+    → (k : ℕ) → m ≤ k → k < length numbers → a < address_at l w (slice_index numbers k)
+higher_from l w numbers n a m index higher k from within = elim (cases_lt m k) [
+  | inl behind ↦ let rising = index.rising m k behind within in omega (arith, rising, higher)
+  | inr there ↦ subst (λ (j : ℕ). a < address_at l w (slice_index numbers j)) (omega (arith, there, from)) higher
+]
+
+-- gaps before the first entry and behind the last one
+pub gap_in_none : (l : Log) (w numbers : List ℕ) (a : ℕ) → length numbers ≡ 0 → IsGapFor l w numbers a 0
+gap_in_none l w numbers a none = record { within = omega arith; lower = λ k before. omega (arith, before); higher = λ k _ within. omega (arith, within, none) }
+
+pub gap_first : (l : Log) (w numbers : List ℕ) (n a : ℕ) → IsIndexOf l w n numbers → a < address_at l w (slice_index numbers 0) → IsGapFor l w numbers a 0
+gap_first l w numbers n a index higher =
+    record { within = omega arith; lower = λ k before. omega (arith, before); higher = higher_from l w numbers n a 0 index higher }
+
+pub gap_last : (l : Log) (w numbers : List ℕ) (n a : ℕ) → IsIndexOf l w n numbers → (length numbers ≡ 0 → ⊥)
+    → address_at l w (slice_index numbers (length numbers - 1)) < a → IsGapFor l w numbers a (length numbers)
+gap_last l w numbers n a index some lower = record {
+  within = omega arith;
+  lower = λ k before. lower_to l w numbers n a (length numbers - 1) index (omega (arith, some)) lower k (omega (arith, before));
+  higher = λ k behind within. omega (arith, behind, within);
+}
+
 -- in a gap none does
 pub gap_named : (l : Log) (w numbers : List ℕ) (n a i : ℕ) → IsIndexOf l w n numbers → IsGapFor l w numbers a i → list_any (λ x. x == a) (named_by l w n) ≡ false
 gap_named l w numbers n a i index gap =

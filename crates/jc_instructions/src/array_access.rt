@@ -41,7 +41,7 @@ fn element_read<S: WordStore>(
 // Sets an element: the firewall is asked for the array and for what is stored, then the index and the value's
 // type are tested.
 #[inline(always)]
-#[tactic(auto, unfolding(crate::specs::ArrayAccess::element_write), using(crate::proofs::Kept::may_have))]
+#[tactic(auto, unfolding(crate::specs::ArrayAccess::element_write))]
 fn element_write<S: WordStore>(
     of_type: ValueType,
     reference: Ref,

@@ -29,7 +29,6 @@ impl<S: WordStore> Memory<S> {
 
     /// Where the static image begins in the record of the package with this number, from 1: the offset of its first word; none, where
     /// the record has no component or ends before. Of most packages it is known without a walk over the record.
-    #[tactic(auto, using(jc_heap::proofs::StaticImages::statics_within, jc_heap::proofs::StaticImages::all_static))]
     #[inline(always)]
     pub fn statics(&self, number: u8, owner: Ref) -> Option<u16>
         requires up { self.now.heap.down ≡ false }

@@ -66,7 +66,6 @@ fn read_all<S: WordStore>(
 }
 
 // Converts a piece that follows: writes what is converted, and leaves the bytes of the next state.
-#[tactic(auto, using(crate::proofs::Released::released_few))]
 fn convert<S: WordStore>(
     own: &RunningCipher,
     piece: &[u8],

@@ -6,7 +6,7 @@ pub(crate) mod keys;
 pub mod parts;
 pub(crate) mod signing;
 
-ghost use Rattle.std.specs.Prelude.{◌≡◌, ◌≤◌, ◌<◌, false, length, take, IfOk, IfSome, Ok};
+ghost use Rattle.std.specs.Prelude.{◌≡◌, ◌≤◌, ◌<◌, false, length, replicate, take, IfOk, IfSome, Ok};
 ghost use Rattle.std.specs.Option.{option_map};
 ghost use Rattle.jc_digests.specs.Kept.{digest_size};
 ghost use Rattle.jc_memory.specs.Programs.{Executes};
@@ -18,7 +18,7 @@ ghost use Rattle.jc_api.specs.Forms.{reading_call};
 ghost use Rattle.jc_api.specs.Initializing.{initializing_call};
 ghost use Rattle.jc_api_ciphers.specs.Signature.Pair.Kept.{first_bytes};
 ghost use Rattle.jc_api_ciphers.specs.Signature.Pair.Signing.{IsRunningPair, is_signature_of, signature_of};
-ghost use Rattle.jc_api_ciphers.specs.Signature.Pair.{digest_with, goes_on, longest_signature, pair_get_length, pair_init, pair_init_with_vector, pair_sign, pair_update, pair_verify, puts_signature, running_pair, signs, tells_if_signed, verifies};
+ghost use Rattle.jc_api_ciphers.specs.Signature.Pair.{digest_with, goes_on, longest_signature, nothing_to_sign, pair_get_length, pair_init, pair_init_with_vector, pair_sign, pair_update, pair_verify, puts_signature, running_pair, signs, tells_if_signed, verifies};
 
 use crate::initialized::{KeyedEngine, MOST_SHORTS, Setup, set_up, taken_mode};
 use crate::outputs::put_output;
@@ -212,6 +212,15 @@ pub(crate) fn update_by_pair<S: WordStore>(
     go_on(&run, piece, memory, linked)
 }
 
+// The shorts of a state to which nothing came, of as many as the longest has.
+fn nothing_to_sign<'a>(own: &RunningPair, zeros: &'a [u16]) -> &'a [u16]
+    requires zeros { zeros.now ≡ replicate MOST_SHORTS 0 }
+    ensures words { result.now ≡ nothing_to_sign own.now }
+    ensures few { length result.now ≤ MOST_SHORTS }
+{
+    &zeros[..own.algorithm.shorts() as usize]
+}
+
 // Puts a signature; what came is forgotten.
 fn put_and_forget<S: WordStore>(
     own: &RunningPair,
@@ -226,7 +235,7 @@ fn put_and_forget<S: WordStore>(
         linked.now memory.old) memory.old (after_call result memory.new) }
 {
     let zeros = [0; MOST_SHORTS];
-    let words = &zeros[..own.algorithm.shorts() as usize];
+    let words = nothing_to_sign(own, &zeros);
     put_output(
         own.digest.state.array,
         words,
@@ -338,7 +347,7 @@ fn forget_and_tell<S: WordStore>(
         memory.old (after_call result memory.new) }
 {
     let zeros = [0; MOST_SHORTS];
-    let words = &zeros[..own.algorithm.shorts() as usize];
+    let words = nothing_to_sign(own, &zeros);
     let state = StateWords {
         array: own.digest.state.array,
         start: 0,

@@ -1,8 +1,9 @@
-use Rattle.std.proofs.Common.{◌≡◌, ◌∙◌, true, false, [], ◌∷◌, Ok, sym}
+use Rattle.std.proofs.Common.{◌≡◌, ◌∙◌, true, false, [], ◌∷◌, Ok, sym, arith}
 use Rattle.jc_heap.specs.declared.object.Kind.TheVariants.{Instance}
 use Rattle.jc_heap.specs.declared.touch.Touch.TheVariants as touch
 use Rattle.jc_memory.specs.Making.{creation_refusal}
 use Rattle.jc_memory.specs.CommitCapacity.{has_space, lacks_capacity}
+use Rattle.jc_memory.proofs.ProgramLemmas.{in_two_steps}
 use Rattle.jc_platform.specs.Hierarchy.{cells_of}
 use Rattle.jc_api.specs.Factory.{state_array}
 use Rattle.jc_api.proofs.EngineMaking.{after_made, cut_later}
@@ -34,3 +35,6 @@ pub returns-in-Err : goal.returns-in-Err
 returns-in-Err g c = cut_later c.args.engine c.args.linked.now c.args.memory.now c.make_state.new.memory c.make_instance.new.memory c.in_ok-array.array
     (sym c.is_in_table.ensures ∙ c.if-not-is_in_table.false) (sym c.has_space_for_both.ensures ∙ c.if-not-has_space_for_both.false)
     (sym c.keeps_no_cells.ensures ∙ c.if-not-keeps_no_cells.false) c.in_ok-array.ensures c.in-Err.ensures
+
+pub returns-in-Ok : goal.returns-in-Ok
+returns-in-Ok g c = grind (arith, in_two_steps)

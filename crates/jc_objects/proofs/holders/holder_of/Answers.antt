@@ -5,7 +5,7 @@ use Rattle.jc_objects.specs.Holders.{holder_in, or_else}
 use Rattle.jc_objects.specs.Records.{items_from, record_size}
 use Rattle.jc_objects.specs.declared.holders.Holder.{Holder}
 use Rattle.jc_objects.proofs.HeapBounds.{Bounds, bounds}
-use Rattle.jc_objects.proofs.Sizes.{size_none, size_some}
+use Rattle.jc_objects.proofs.Sizes.{record_of, size_none, size_some}
 use Rattle.jc_objects.proofs.Standing.{items_end, items_first, items_short, items_step}
 use Rattle.jc_objects.proofs.holders.holder_of.Goals as goal
 
@@ -37,6 +37,20 @@ returns-in-Some-holder_at g c =
     ap (λ (o : Option Holder). or_else o (holder_in (items_from w (at + record_size w at)) c.args.address)) c.in-Some-holder_at.ensures
     ∙ sym (ap (λ (l : List (ℕ × Item)). holder_in l c.args.address) step.0)
     ∙ c.loop-at.invariant.left
+
+pub holder_at-requires-clause-record : goal.holder_at-requires-clause-record
+holder_at-requires-clause-record g c =
+    record_of (g.W.ImageWords.words c.args.words.now) c.loop-at.at c.in-Some.size c.loop-at.invariant.low (omega (arith, c.word-top.ensures)) c.in-Some.ensures
+
+pub overflow_add-at : goal.overflow_add-at
+overflow_add-at g c =
+    let size = size_some (g.W.ImageWords.words c.args.words.now) c.loop-at.at c.in-Some.size c.in-Some.ensures in
+    omega (arith, size.0, size.1, c.word-top.ensures)
+
+pub loop-at-smaller : goal.loop-at-smaller
+loop-at-smaller g c =
+    let size = size_some (g.W.ImageWords.words c.args.words.now) c.loop-at.at c.in-Some.size c.in-Some.ensures in
+    omega (arith, size.0, size.1, c.word-top.ensures)
 
 pub loop-at-preserved : goal.loop-at-preserved
 loop-at-preserved g c =

@@ -4,7 +4,7 @@ use Rattle.jc_heap.specs.Object.{Item}
 use Rattle.jc_commit.specs.Image.{top_of}
 use Rattle.jc_objects.specs.Records.{item_at, items_from, record_size}
 use Rattle.jc_objects.proofs.HeapBounds.{Bounds, bounds}
-use Rattle.jc_objects.proofs.Sizes.{size_none, size_some}
+use Rattle.jc_objects.proofs.Sizes.{record_of, size_none, size_some}
 use Rattle.jc_objects.proofs.Standing.{items_end, items_first, items_short, items_step}
 use Rattle.jc_objects.specs.Keys.{array_of_key}
 use Rattle.jc_objects.proofs.Arrays.{arrays_from}
@@ -31,6 +31,20 @@ returns-in_default g c =
     let short : top_of w - at < record_size w at = size_none w at c.in_default.ensures in
     let none = items_short w c.requires at (omega (arith, c.word-top.ensures)) (omega (arith, short)) in
     sym (c.loop-at.invariant.left ∙ ap (λ (l : List (ℕ × Item)). items ++ flat_map (array_of_key t) l) none.0 ∙ append-nil items)
+
+pub push_key_array-requires-clause-record : goal.push_key_array-requires-clause-record
+push_key_array-requires-clause-record g c =
+    record_of (g.W.ImageWords.words c.args.words.now) c.loop-at.at c.in-Some.size c.loop-at.invariant.low (omega (arith, c.word-top.ensures)) c.in-Some.ensures
+
+pub overflow_add-at : goal.overflow_add-at
+overflow_add-at g c =
+    let size = size_some (g.W.ImageWords.words c.args.words.now) c.loop-at.at c.in-Some.size c.in-Some.ensures in
+    omega (arith, size.0, size.1, c.word-top.ensures)
+
+pub loop-at-smaller : goal.loop-at-smaller
+loop-at-smaller g c =
+    let size = size_some (g.W.ImageWords.words c.args.words.now) c.loop-at.at c.in-Some.size c.in-Some.ensures in
+    omega (arith, size.0, size.1, c.word-top.ensures)
 
 pub loop-at-preserved : goal.loop-at-preserved
 loop-at-preserved g c =

@@ -5,7 +5,7 @@ use Rattle.jc_commit.specs.Image.{top_of}
 use Rattle.jc_objects.specs.Records.{is_whole_from, item_at, items_from, record_size}
 use Rattle.jc_objects.specs.Places.{IsPlaceFor, standing_here, standing_in}
 use Rattle.jc_objects.specs.declared.places.Standing.{Standing}
-use Rattle.jc_objects.proofs.Sizes.{size_none, size_some}
+use Rattle.jc_objects.proofs.Sizes.{record_of, size_none, size_some}
 use Rattle.jc_objects.proofs.Standing.{items_end, items_short, items_step}
 use Rattle.jc_objects.proofs.PlaceSteps.{place_step}
 use Rattle.jc_objects.proofs.places.standing_from.Goals as goal
@@ -33,6 +33,20 @@ returns-then-address-place-clause-standing g c =
     ∙ sym (ap (λ (b : Bool). if b then standing_here (at, item_at w at) c.args.address else behind) (le-leb c.args.address at (omega arith)))
     ∙ sym (ap (λ (l : List (ℕ × Item)). standing_in (is_whole_from w at) l c.args.address) step.0)
     ∙ c.loop-place.invariant.place.tells c.args.address (omega arith)
+
+pub standing_here-requires-clause-record : goal.standing_here-requires-clause-record
+standing_here-requires-clause-record g c =
+    record_of (g.W.ImageWords.words c.args.words.now) c.loop-place.place c.in-Some.size c.loop-place.invariant.place.low (omega (arith, c.word-top.ensures)) c.in-Some.ensures
+
+pub overflow_add-place : goal.overflow_add-place
+overflow_add-place g c =
+    let size = size_some (g.W.ImageWords.words c.args.words.now) c.loop-place.place c.in-Some.size c.in-Some.ensures in
+    omega (arith, size.0, size.1, c.word-top.ensures)
+
+pub loop-place-smaller : goal.loop-place-smaller
+loop-place-smaller g c =
+    let size = size_some (g.W.ImageWords.words c.args.words.now) c.loop-place.place c.in-Some.size c.in-Some.ensures in
+    omega (arith, size.0, size.1, c.word-top.ensures)
 
 pub loop-place-preserved : goal.loop-place-preserved
 loop-place-preserved g c =

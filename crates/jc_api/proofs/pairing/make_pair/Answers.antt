@@ -1,0 +1,12 @@
+use Rattle.std.proofs.Common.{arith}
+use Rattle.jc_memory.proofs.ProgramLemmas.{in_two_calls}
+use Rattle.jc_api.proofs.pairing.make_pair.Goals as goal
+
+pub returns-in_err-made : goal.returns-in_err-made
+returns-in_err-made g c = grind (arith, in_two_calls)
+
+pub returns-in_err-first : goal.returns-in_err-first
+returns-in_err-first g c = grind (arith, in_two_calls)
+
+pub returns : goal.returns
+returns g c = grind (arith, in_two_calls)
