@@ -8,13 +8,14 @@ ghost use Rattle.jc_frames.specs.declared.exceptions.Exception.{Exception};
 ghost use Rattle.jc_world.specs.declared.step_exit.StepExit.TheVariants.{End, Throw};
 ghost use Rattle.jc_memory.specs.Programs.{Executes};
 ghost use Rattle.jc_world.specs.Instructions.{after_instruction};
+ghost use Rattle.jc_interp.specs.declared.frames_only.FramesExit.TheVariants.{Exit};
 ghost use Rattle.jc_interp.specs.Step.{code_of, if_had, object_instruction};
 ghost use Rattle.jc_interp.specs.PausedSteps.{EndsStep, step_rest, memory_instruction, paused_rest};
 
 use crate::calling::invoke_instruction;
 use crate::frames_only::{FramesExit, PausedStep};
 use jc_frames::instr::{ArrayOp, Instr, ObjectOp, PrimitiveArray, ReturnOp};
-use jc_frames::{Frames, Outcome};
+use jc_frames::{FrameExit, Frames, Outcome};
 use jc_instructions::method_component::method_component_of;
 use jc_instructions::method_return::return_to_caller;
 use jc_instructions::throw::{athrow, throw};
@@ -185,25 +186,6 @@ fn execute<S: WordStore>(
     }
 }
 
-// Does what is left of an instruction at a place.
-#[inline(always)]
-fn resume<S: WordStore>(
-    why: &FramesExit,
-    place: u16,
-    frames: &mut Frames,
-    memory: &mut Memory<S>,
-    linked: &Linked,
-) -> Result<(), StepExit>
-    requires up { memory.old.heap.down ≡ false }
-    ensures { Executes (paused_rest why.now place linked.now frames.old memory.old) memory.old
-        (after_instruction result frames.new memory.new) }
-{
-    match why {
-        FramesExit::Exit(stop) => Err(StepExit::from(*stop)),
-        FramesExit::Needs(instr) => execute(instr, place, frames, memory, linked),
-    }
-}
-
 // Throws what an instruction at a place throws; any other exit stays. It is one call for all exits, out of line, so that an instruction that
 // goes on keeps no room for one.
 #[inline(never)]
@@ -227,6 +209,48 @@ fn throw_at<S: WordStore>(
     }
 }
 
+// The same of an instruction that ended so. What is handed over by memory has a function of its own in line, so that it is blanked on this way only.
+#[inline(always)]
+fn throw_ended<S: WordStore>(
+    ended: Result<(), StepExit>,
+    place: u16,
+    frames: &mut Frames,
+    memory: &mut Memory<S>,
+    linked: &Linked,
+) -> Result<(), StepExit>
+    requires up { (e : Exception) → ended ≡ Err (Throw e) → memory.old.heap.down ≡ false }
+    ensures { EndsStep (after_instruction ended frames.old memory.old) place linked.now
+        (after_instruction result frames.new memory.new) }
+{
+    match ended {
+        Ok(()) => Ok(()),
+        Err(exit) => {
+            throw_at(exit, place, frames, memory, linked)?;
+            Ok(())
+        }
+    }
+}
+
+// The same where frames alone did not go on. Code faults have a way of their own, so that the loop of all instructions keeps nothing ready for them.
+#[inline(always)]
+fn throw_stop<S: WordStore>(
+    stop: &FrameExit,
+    place: u16,
+    frames: &mut Frames,
+    memory: &mut Memory<S>,
+    linked: &Linked,
+) -> Result<(), StepExit>
+    requires up { memory.old.heap.down ≡ false }
+    ensures { Executes (step_rest (record { why = Exit stop.now; place = place }) linked.now
+        frames.old memory.old) memory.old (after_instruction result frames.new memory.new) }
+{
+    if let FrameExit::End(Outcome::Fault) = stop {
+        let fault = Err(StepExit::End(Outcome::Fault));
+        return throw_ended(fault, place, frames, memory, linked);
+    }
+    throw_ended(Err(StepExit::from(*stop)), place, frames, memory, linked)
+}
+
 /// Does what is left of a step at a pause, and throws what it throws. The end of a method throws nothing, so it takes no way out of line.
 #[tactic(auto, using(jc_memory::proofs::ProgramLemmas::in_two_calls, crate::proofs::StepEnds::ended_step))]
 #[inline(always)]
@@ -240,16 +264,17 @@ pub(crate) fn finish<S: WordStore>(
     ensures { Executes (step_rest pause.now linked.now frames.old memory.old) memory.old
         (after_instruction result frames.new memory.new) }
 {
-    if let FramesExit::Needs(instr) = &pause.why {
-        if let Instr::Return(how) = instr {
-            return return_if_had(*how, frames, memory);
-        }
-    }
-    match resume(&pause.why, pause.place, frames, memory, linked) {
-        Ok(()) => Ok(()),
-        Err(exit) => {
-            throw_at(exit, pause.place, frames, memory, linked)?;
-            Ok(())
+    match &pause.why {
+        FramesExit::Exit(stop) => throw_stop(stop, pause.place, frames, memory, linked),
+        FramesExit::Needs(instr) => {
+            if let Instr::Return(how) = instr {
+                return return_if_had(*how, frames, memory);
+            }
+            let ended = execute(instr, pause.place, frames, memory, linked);
+            if ended.is_ok() {
+                return Ok(());
+            }
+            throw_ended(ended, pause.place, frames, memory, linked)
         }
     }
 }

@@ -1,6 +1,7 @@
--- The end of a method throws nothing.
-use Rattle.std.proofs.Common.{refl}
+-- The end of a method throws nothing, nor does an instruction after which code goes on.
+use Rattle.std.proofs.Common.{rules, refl}
 use Rattle.jc_heap.specs.Completions.{Completed}
+use Rattle.jc_memory.specs.Programs.{Executes}
 use Rattle.jc_frames.specs.Frames.{GoesOn}
 use Rattle.jc_interp.specs.PausedSteps.{paused_rest}
 use Rattle.jc_interp.proofs.QuietReturns.{return_step}
@@ -11,8 +12,10 @@ pub returns-in-Return : goal.returns-in-Return
 returns-in-Return g c = rw (c.in-Needs.is, c.in-Return.is) (return_step c.in-Return.how c.args.frames.now c.args.memory.now _
     c.args.pause.now.place c.args.linked.now c.return_if_had.ensures)
 
-pub returns-in-Ok : goal.returns-in-Ok
-returns-in-Ok g c =
+pub returns-then-is_ok : goal.returns-then-is_ok
+returns-then-is_ok g c =
+    let made : Executes (paused_rest c.args.pause.now.why c.args.pause.now.place c.args.linked.now c.args.frames.now c.args.memory.now) c.args.memory.now
+    (Completed (GoesOn c.execute-ended.new.frames) c.execute-ended.new.memory) = search rules in
     ended_step (paused_rest c.args.pause.now.why c.args.pause.now.place c.args.linked.now c.args.frames.now c.args.memory.now) c.args.memory.now
-    (Completed (GoesOn c.resume.new.frames) c.resume.new.memory) (Completed (GoesOn c.resume.new.frames) c.resume.new.memory) c.args.pause.now.place
-    c.args.linked.now c.in-Ok.ensures (refl, refl)
+    (Completed (GoesOn c.execute-ended.new.frames) c.execute-ended.new.memory) (Completed (GoesOn c.execute-ended.new.frames) c.execute-ended.new.memory)
+    c.args.pause.now.place c.args.linked.now made (refl, refl)
