@@ -10,7 +10,7 @@ ghost use Rattle.jc_instructions.specs.Invoke.{call_of_code, header_of, method_s
 ghost use Rattle.jc_platform.specs.Signatures.{argument_cells};
 ghost use Rattle.jc_interp.specs.Calling.{after_native_return, invoke_instruction, invoke_selected, native_invoke, static_invoke};
 
-use crate::natives::call_native;
+use crate::natives::{call_native, call_other};
 use crate::own_calls::{
     select_own_code, select_own_implementation, select_own_special, short_header_at,
 };
@@ -19,7 +19,7 @@ use jc_frames::{CallKind, Frames, Outcome, header_at};
 use jc_instructions::enter::{CallSite, Callee, enter};
 use jc_instructions::invoke::{SelectedCall, select_method};
 use jc_instructions::known_calls::{
-    CodeCall, method_of_platform, select_code, select_interface_code,
+    CodeCall, method_of_platform, named_method_of_platform, select_code, select_interface_code,
 };
 use jc_instructions::method_component::method_component_of;
 use jc_instructions::server_call::call_server;
@@ -245,8 +245,52 @@ fn invoke_unknown<S: WordStore>(
     invoke_other(InvokeOp::Virtual(index), place, frames, memory, linked)
 }
 
-// A virtual call by the instruction at a place whose entry names a method of the platform. Where the one that it runs is known at once, no more
-// is asked.
+// A virtual call by the instruction at a place whose entry names a method of the platform, out of line. Where the one that it runs is known at once,
+// no more is asked.
+#[tactic(auto, using(jc_memory::proofs::ProgramLemmas::in_two_calls), unfolding(crate::specs::Calling::invoke_instruction, crate::specs::Calling::native_invoke, jc_instructions::specs::Invoke::method_selection))]
+#[inline(never)]
+fn call_other_of_platform<S: WordStore>(
+    entry: &Target,
+    index: u16,
+    place: u16,
+    frames: &mut Frames,
+    memory: &mut Memory<S>,
+    linked: &Linked,
+) -> Result<(), StepExit>
+    requires up { memory.old.heap.down ≡ false }
+    requires entry { Some entry.now ≡ target_at linked.now frames.old.current.origin.package_number
+        index }
+    ensures { Executes (invoke_instruction (Virtual index) place linked.now frames.old memory.old)
+        memory.old (after_instruction result frames.new memory.new) }
+{
+    let Some((method, cells, arguments)) = method_of_platform(entry, frames, memory, linked) else {
+        return invoke_unknown(index, place, frames, memory, linked);
+    };
+    let answered = call_other(method, arguments, memory, linked)?;
+    frames.discard(cells);
+    answer(answered, place, frames, memory, linked)
+}
+
+// The same in line: its answer has memory of its own.
+#[inline(always)]
+fn invoke_other_of_platform<S: WordStore>(
+    entry: &Target,
+    index: u16,
+    place: u16,
+    frames: &mut Frames,
+    memory: &mut Memory<S>,
+    linked: &Linked,
+) -> Result<(), StepExit>
+    requires up { memory.old.heap.down ≡ false }
+    requires entry { Some entry.now ≡ target_at linked.now frames.old.current.origin.package_number
+        index }
+    ensures { Executes (invoke_instruction (Virtual index) place linked.now frames.old memory.old)
+        memory.old (after_instruction result frames.new memory.new) }
+{
+    call_other_of_platform(entry, index, place, frames, memory, linked)
+}
+
+// The same, where most calls run the very method that the entry names: of these nothing else is asked.
 #[tactic(auto, using(jc_memory::proofs::ProgramLemmas::in_two_calls), unfolding(crate::specs::Calling::invoke_instruction, crate::specs::Calling::native_invoke, jc_instructions::specs::Invoke::method_selection))]
 #[inline(always)]
 fn call_of_platform<S: WordStore>(
@@ -263,8 +307,9 @@ fn call_of_platform<S: WordStore>(
     ensures { Executes (invoke_instruction (Virtual index) place linked.now frames.old memory.old)
         memory.old (after_instruction result frames.new memory.new) }
 {
-    let Some((method, cells, arguments)) = method_of_platform(entry, frames, memory, linked) else {
-        return invoke_unknown(index, place, frames, memory, linked);
+    let known = named_method_of_platform(entry, frames, memory, linked);
+    let Some((method, cells, arguments)) = known else {
+        return invoke_other_of_platform(entry, index, place, frames, memory, linked);
     };
     let answered = call_native(method, arguments, memory, linked)?;
     frames.discard(cells);

@@ -22,10 +22,10 @@ use jc_platform::names::{
 use jc_words::WordStore;
 use jc_world::{NativeResult, StepExit, boolean};
 
-// Carries out any method of the platform, out of line.
+/// Carries out any method of the platform, out of line.
 #[tactic(auto, unfolding(crate::specs::Natives::native_call))]
 #[inline(never)]
-fn call_other<S: WordStore>(
+pub(crate) fn call_other<S: WordStore>(
     method: PlatformMethod,
     args: &[Cell],
     memory: &mut Memory<S>,

@@ -181,19 +181,19 @@ fn run_attacked<S: WordStore>(
 #[inline(always)]
 fn run_budget<S: WordStore>(
     lent: &[u8],
-    budget: Budget,
+    budget: &Budget,
     frames: &mut Frames,
     memory: &mut Memory<S>,
     linked: &Linked,
 ) -> Result<Option<(u32, Outcome)>, StoreDown>
     requires up { memory.old.heap.down ≡ false }
     requires short { length lent.now < 2 ^ 16 }
-    ensures { IsPartOfRun result budget.attack budget.left None 0 lent.now linked.now frames.old
-        memory.old frames.new memory.new }
+    ensures { IsPartOfRun result budget.now.attack budget.now.left None 0 lent.now linked.now
+        frames.old memory.old frames.new memory.new }
 {
     match budget.attack {
         None => run_whole(lent, budget.left, frames, memory, linked, 0),
-        Some(_) => run_attacked(lent, budget, frames, memory, linked),
+        Some(_) => run_attacked(lent, *budget, frames, memory, linked),
     }
 }
 
@@ -214,7 +214,7 @@ pub fn run_of<S: WordStore>(
         memory.old (after_step result memory.new) }
 {
     memory.notes().forget();
-    match run_budget(lent, budget, frames, memory, linked)? {
+    match run_budget(lent, &budget, frames, memory, linked)? {
         Some(end) => Ok(end),
         None => {
             note_budget(frames, memory);
