@@ -557,7 +557,7 @@ pub fn select_code<S: WordStore>(
 }
 
 /// The same of a call of an interface's method by token.
-#[tactic(auto, using(crate::proofs::Implementing::not_implemented), unfolding(crate::specs::Invoke::invokeinterface, crate::specs::Invoke::receiver_of, crate::specs::Parameters::fits))]
+#[tactic(auto, unfolding(crate::specs::Invoke::invokeinterface, crate::specs::Invoke::receiver_of, crate::specs::Parameters::fits))]
 #[inline(always)]
 pub fn select_interface_code<S: WordStore>(
     interface: ClassWord,
