@@ -37,7 +37,7 @@ pub(crate) fn receiver<S: WordStore>(args: &[Cell], memory: &Memory<S>) -> Resul
 }
 
 // `OwnerPIN.reset`: takes the validated flag away and gives all tries back, where the flag was set.
-#[tactic(auto, unfolding(crate::specs::OwnerPin::owner_pin_reset), using(jc_memory::proofs::ProgramLemmas::in_two_steps))]
+#[tactic(auto, unfolding(crate::specs::OwnerPin::owner_pin_reset))]
 fn owner_pin_reset<S: WordStore>(
     args: &[Cell],
     memory: &mut Memory<S>,
@@ -52,7 +52,7 @@ fn owner_pin_reset<S: WordStore>(
 }
 
 // `OwnerPIN.resetAndUnblock`: takes the validated flag away and gives all tries back.
-#[tactic(auto, unfolding(crate::specs::OwnerPin::owner_pin_reset_and_unblock), using(jc_memory::proofs::ProgramLemmas::in_two_steps))]
+#[tactic(auto, unfolding(crate::specs::OwnerPin::owner_pin_reset_and_unblock))]
 fn owner_pin_reset_and_unblock<S: WordStore>(
     args: &[Cell],
     memory: &mut Memory<S>,

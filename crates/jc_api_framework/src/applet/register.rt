@@ -46,7 +46,7 @@ fn fill_aid<S: WordStore>(memory: &mut Memory<S>, object: Ref, aid: &[u8]) -> Re
 }
 
 // Makes an AID object of the runtime environment.
-#[tactic(auto, unfolding(crate::specs::Applet::Register::aid_object_creation), using(jc_memory::proofs::ProgramLemmas::in_two_steps))]
+#[tactic(auto, unfolding(crate::specs::Applet::Register::aid_object_creation))]
 fn make_aid<S: WordStore>(
     memory: &mut Memory<S>,
     linked: &Linked,
@@ -101,7 +101,7 @@ fn enter<S: WordStore>(
 }
 
 /// Registers the instance with this AID, if this is allowed: makes the AID object, and enters the applet.
-#[tactic(auto, unfolding(crate::specs::Applet::Register::registration), using(jc_memory::proofs::ProgramLemmas::in_two_steps))]
+#[tactic(auto, unfolding(crate::specs::Applet::Register::registration))]
 pub(crate) fn register<S: WordStore>(
     aid: &[u8],
     instance: Ref,

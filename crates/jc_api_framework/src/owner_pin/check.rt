@@ -59,7 +59,7 @@ fn compare_bytes<S: WordStore>(
 }
 
 // Compares, where a try is left; bad arguments throw once it was counted.
-#[tactic(auto, unfolding(crate::specs::OwnerPin::pin_comparison), using(jc_memory::proofs::ProgramLemmas::in_two_steps))]
+#[tactic(auto, unfolding(crate::specs::OwnerPin::pin_comparison))]
 fn pin_comparison<S: WordStore>(
     memory: &mut Memory<S>,
     pin: Ref,

@@ -14,7 +14,6 @@ use jc_words::WordStore;
 use jc_world::{NativeResult, StepExit, Stretch, put, short};
 
 // Puts bytes into elements one after another, each for good; returns the index after the last one.
-#[tactic(auto, using(jc_memory::proofs::ProgramLemmas::in_two_steps))]
 fn store_for_good<S: WordStore>(
     memory: &mut Memory<S>,
     to: Stretch,

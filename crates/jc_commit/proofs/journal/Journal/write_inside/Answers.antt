@@ -1,8 +1,9 @@
-use Rattle.std.proofs.Common.{ℕ, List, [], ◌∷◌, refl, sym, ap, subst, ◌∙◌, arith}
+use Rattle.std.proofs.Common.{ℕ, List, [], ◌∷◌, max, refl, sym, ap, subst, ◌∙◌, arith}
 use Rattle.jc_commit.specs.EntryIndex.{IsIndexOf, IsPlaceFor}
-use Rattle.std.proofs.lemmas.Bool.{false≢true}
+use Rattle.std.proofs.lemmas.Bool.{false≢true, true≢false}
+use Rattle.jc_words.specs.Layout.{addresses_start}
 use Rattle.jc_commit.specs.State.{State, live_words}
-use Rattle.jc_commit.proofs.Changing.{changed, torn, match_true}
+use Rattle.jc_commit.proofs.Changing.{sound_kept, changed, torn, match_true}
 use Rattle.jc_commit.proofs.Inside.{inside_one}
 use Rattle.jc_commit.proofs.Refusals.{not_full}
 use Rattle.jc_commit.proofs.journal.Journal.write_inside.Goals as goal
@@ -29,6 +30,14 @@ write_at-requires-clause-ready g c =
       place = subst (λ (numbers : List ℕ). IsPlaceFor l w c.read-n.result numbers c.self.inside.born c.args.address c.in-Some.place) c.as_slice-numbers.ensures.value c.in-Some.ensures;
     }
 
+-- what holds of every journal, where the store refused a write
+pub invariant_of-self : goal.invariant_of-self
+invariant_of-self g c =
+    let stays = c.write_at.ensures.stays in
+    sound_kept c.self.invariant stays.good stays.size stays.log
+    (λ outside. absurd (false≢true (sym outside ∙ ap (λ (s : State). s.in_transaction) c.self.view_is ∙ c.requires.inside)))
+    (λ _ up. absurd (true≢false (sym c.in_err-write_at-in-Some.ensures.wrote.down ∙ up)))
+
 pub returns-in_err-write_at-in-Some-clause-full : goal.returns-in_err-write_at-in-Some-clause-full
 returns-in_err-write_at-in-Some-clause-full g c =
     let i = inside_one _ c.args.address c.args.value c.in-Some.place c.self.invariant c.self.view_is c.requires.up c.requires.inside c.read-n.ensures c.requires.place
@@ -42,6 +51,19 @@ returns-in_err-write_at-in-Some-clause-stopped g c = λ _.
     let i = inside_one _ c.args.address c.args.value c.in-Some.place c.self.invariant c.self.view_is c.requires.up c.requires.inside c.read-n.ensures c.requires.place
     c.in-Some.ensures in
     torn c.in_err-write_at-in-Some.ensures.wrote c.write_at.ensures.stays c.self.view_is (omega (arith, i.writes))
+
+pub invariant_of-self-in-Some : goal.invariant_of-self-in-Some
+invariant_of-self-in-Some g c =
+    let stays = c.write_at.ensures.stays in
+    let e = c.in_ok-write_at-in-Some.ensures in
+    let i = inside_one _ c.args.address c.args.value c.in-Some.place c.self.invariant c.self.view_is c.requires.up c.requires.inside c.read-n.ensures c.requires.place
+    c.in-Some.ensures in
+    sound_kept c.self.invariant stays.good stays.size stays.log
+    (λ outside. absurd (false≢true (sym outside ∙ ap (λ (s : State). s.in_transaction) c.self.view_is ∙ c.requires.inside)))
+    (λ _ _. (
+      i.whole.births ∙ ap (max addresses_start) (sym stays.top),
+      subst (λ (n : ℕ). IsIndexOf c.self.inside.log (g.S.WordStore.words c.write_at.new.store) n c.write_at.new.numbers.items) (sym e.changed.count) e.index,
+    ))
 
 pub returns-in_ok-write_at-in-Some-clause-ok : goal.returns-in_ok-write_at-in-Some-clause-ok
 returns-in_ok-write_at-in-Some-clause-ok g c =
