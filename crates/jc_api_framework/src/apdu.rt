@@ -48,7 +48,7 @@ const IN_BLOCK_SIZE: i16 = 1;
 const OUT_BLOCK_SIZE: i16 = 258;
 
 /// `APDU.getBuffer`: returns the APDU buffer.
-#[inline(never)]
+#[inline(always)]
 pub fn apdu_get_buffer<S: WordStore>(memory: &Memory<S>) -> Result<NativeResult, StepExit>
     requires up { memory.now.heap.down ≡ false }
     ensures { Executes (apdu_get_buffer memory.now) memory.now (after_call result memory.now) }

@@ -33,6 +33,7 @@ pub enum AppletResult {
 }
 
 // What an exception that nothing caught is answered by.
+#[inline(always)]
 fn result_of_exception<S: WordStore>(
     exception: Ref,
     memory: &Memory<S>,

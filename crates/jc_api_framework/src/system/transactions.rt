@@ -23,7 +23,7 @@ fn set_level<S: WordStore>(depth: Depth, memory: &mut Memory<S>)
 }
 
 /// `JCSystem.beginTransaction`: begins a transaction; throws IN_PROGRESS where one is open.
-#[inline(never)]
+#[inline(always)]
 pub fn jc_system_begin_transaction<S: WordStore>(
     memory: &mut Memory<S>,
 ) -> Result<NativeResult, StepExit>
@@ -44,7 +44,7 @@ pub fn jc_system_begin_transaction<S: WordStore>(
 
 /// `JCSystem.commitTransaction`: commits; throws NOT_IN_PROGRESS where no transaction is open. That of an
 /// installation stays open.
-#[inline(never)]
+#[inline(always)]
 pub fn jc_system_commit_transaction<S: WordStore>(
     memory: &mut Memory<S>,
 ) -> Result<NativeResult, StepExit>
