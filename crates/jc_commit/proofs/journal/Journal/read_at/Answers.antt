@@ -19,4 +19,5 @@ returns g c =
     let w = g.S.WordStore.words c.self.inside.store in
     let a = c.args.address in
     let same = limit_is c.args.self.now w (ap (λ (s : State). s.plain) c.self.view_is) in
-    c.read_at.ensures ∙ sym (plain_word w a c.self.invariant.good (subst (λ n. IsReadable n a) same c.requires)) ∙ ap (λ (s : State). slice_index s.plain a) c.self.view_is
+    c.read_at.ensures ∙ sym (plain_word w a c.self.invariant.good (subst (λ n. IsReadable n a) same c.requires))
+    ∙ ap (λ (s : State). slice_index s.plain a) c.self.view_is
