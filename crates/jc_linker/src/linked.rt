@@ -258,6 +258,7 @@ impl Linked {
     /// The method that a call of an interface's method by token on an instance of a class runs. It takes time that
     /// grows with the number of classes above.
     #[tactic(auto, unfolding(crate::specs::Methods::interface_method_at))]
+    #[inline(always)]
     pub fn interface_method_at(
         &self,
         class: ClassWord,
