@@ -1,13 +1,10 @@
 pub mod Reaching
 pub mod Exits
-pub mod ArgumentExits
 pub mod Stretches
-pub mod ArgumentResults
 pub mod Due
 pub mod Passing
 pub mod Plain
 pub mod Forms
-pub mod OfShorts
 pub mod Standing
 pub mod States
 pub mod ChangingCalls
@@ -16,4 +13,3 @@ pub mod EngineRoom
 pub mod EngineMaking
 pub mod InitializingCalls
 pub mod TransientEvents
-pub mod PairingCalls

@@ -20,3 +20,5 @@ pub mod OwnerPinRows
 pub mod AppletRows
 pub mod ApduRows
 pub mod Rows
+mod OfShorts
+mod ArgumentExits

@@ -4,3 +4,4 @@ pub mod PairPasses
 pub mod PairPlaces
 pub mod PairCalls
 pub mod PairForms
+pub mod PairingCalls

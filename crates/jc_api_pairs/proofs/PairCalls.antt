@@ -13,7 +13,7 @@ use Rattle.jc_api.proofs.Due.{IsPlainCall}
 use Rattle.jc_api.proofs.FactoryCalls.{factory_due}
 use Rattle.jc_api.proofs.Forms.{reading_due}
 use Rattle.jc_api.proofs.InitializingCalls.{initializing_due}
-use Rattle.jc_api.proofs.PairingCalls.{PairsSo, keeping_due, pairing_due}
+use Rattle.jc_api_pairs.proofs.PairingCalls.{PairsSo, keeping_due, pairing_due}
 use Rattle.jc_api.proofs.Passing.{CallPasses, RefersToNew}
 use Rattle.jc_api.proofs.Plain.{plainly_ok}
 use Rattle.jc_api.specs.Pairing.{HasStateIfNew}

@@ -28,7 +28,7 @@ use Rattle.jc_world.specs.declared.arrays.Stretch.{Stretch}
 use Rattle.jc_api.specs.Factory.{HasState}
 use Rattle.jc_api.specs.Pairing.{pair_cells}
 use Rattle.jc_api.specs.declared.pairing.NewPair.{NewPair}
-use Rattle.jc_api.proofs.PairingCalls.{IsReceiverOf, PairsSo}
+use Rattle.jc_api_pairs.proofs.PairingCalls.{IsReceiverOf, PairsSo}
 use Rattle.jc_api_pairs.specs.KeyPair.{of_given_keys, of_new_keys}
 use Rattle.jc_api_pairs.specs.KeyPair.Changes.{both_changes, counts_once, places_in, public_changes}
 use Rattle.jc_api_pairs.proofs.KeyPairClasses.{pairs_have_state}

@@ -33,7 +33,7 @@ use Rattle.jc_api.specs.declared.factory.NewEngine.{NewEngine}
 use Rattle.jc_api.proofs.Due.{IsPlainCall, called_ok, called_unless}
 use Rattle.jc_api.proofs.Exits.{FaultsOnly, plain_check, plain_firewall, plain_then}
 use Rattle.jc_api.proofs.Forms.{at_is}
-use Rattle.jc_api.proofs.PairingCalls.{IsReceiverOf, PairsSo, persistent_is, plain_persistent}
+use Rattle.jc_api_pairs.proofs.PairingCalls.{IsReceiverOf, PairsSo, persistent_is, plain_persistent}
 use Rattle.jc_api.proofs.Plain.{at_faults, plainly_faults}
 use Rattle.jc_api.proofs.Reaching.{err_not_ok, field_allowed, same_Ok}
 use Rattle.jc_api.proofs.Stretches.{both_ok}

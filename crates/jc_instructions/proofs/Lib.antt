@@ -7,3 +7,4 @@ pub mod Implementing
 mod Same
 pub mod Receivers
 mod TopCells
+pub mod MethodSelection

@@ -2,7 +2,6 @@
 ghost use Rattle.std.specs.Prelude.{◌≡◌, [], IfOk, map};
 ghost use Rattle.std.specs.List.{slice_index_or};
 ghost use Rattle.jcard_attack.specs.Report.{fault_told, is_told_in_full, kind_text, model_name, outcome_text, place_of, second_end, told_by, told_in};
-ghost use Rattle.jcard_attack.specs.Report.{is_undisturbed};
 
 use crate::outcomes::{Outcome, Struck};
 use jc_card::planned_fault::SecondFault;
@@ -100,7 +99,7 @@ fn outcome_text(alloc: Global, struck: &Struck) -> Result<Vec<u8>, AllocError>
     ensures { IfOk result (λ text. text.items ≡ outcome_text struck.now) }
 {
     let mut text = Vec::from_slice(alloc, kind_text(struck.outcome))?;
-    if is_undisturbed(struck.outcome) {
+    if matches!(struck.outcome, Outcome::Undisturbed) {
         return Ok(text);
     }
     text.extend_from_slice(b", answer ")?;
@@ -109,12 +108,6 @@ fn outcome_text(alloc: Global, struck: &Struck) -> Result<Vec<u8>, AllocError>
     push_in_line(&mut text, &struck.answers)?;
     push_standing(&mut text, struck.standing)?;
     Ok(text)
-}
-
-fn is_undisturbed(outcome: Outcome) -> bool
-    ensures { result ≡ is_undisturbed outcome }
-{
-    matches!(outcome, Outcome::Undisturbed)
 }
 
 fn kind_text(outcome: Outcome) -> &'static [u8]

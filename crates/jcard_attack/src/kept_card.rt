@@ -16,21 +16,6 @@ use jcard_sweeps::at_command::{AtCommand, at_command};
 use jcard_sweeps::runs::{probed, recovered, words_of};
 use std::alloc::{AllocError, Global};
 
-/// The card of a copy of these words at a command. Nothing where its line is no command that a line feed ends, or where the lines before it
-/// lead to no card that is up.
-pub(crate) fn kept_for(alloc: Global, words: &[u16], attacked: Attacked) -> Option<AtCommand>
-    requires { length words.now < 65536 }
-    ensures { IfSome result (λ kept. IsKeptFor words.now attacked.entry kept) }
-{
-    at_command(
-        alloc,
-        words,
-        attacked.instructions,
-        attacked.before,
-        attacked.line,
-    )
-}
-
 /// What the command comes to on a copy of the card, with this fault or without one, and what these lines of a probe are answered then.
 /// Nothing where memory is refused, where the power is cut within the command or its probe, where the command opens a load, or where the
 /// image is of the first version.

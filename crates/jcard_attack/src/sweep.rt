@@ -10,7 +10,7 @@ ghost use Rattle.jcard_sweeps.specs.Report.{AreOfImage};
 
 use crate::aftermaths::{AttackFault, Attacked, aftermath, begun};
 use crate::judgement::{compared, gives_access, is_same_as, judged, last_answer};
-use crate::kept_card::{aftermath_of_copy, kept_for};
+use crate::kept_card::aftermath_of_copy;
 use crate::models::{faults_tried, kinds_tried};
 use crate::objects::{aftermath_told, objects_before};
 use crate::outcomes::{Aftermath, AttackSweep, Struck};
@@ -21,7 +21,7 @@ use jcard_outcomes::models::Models;
 use jcard_outcomes::part::Share;
 use jcard_outcomes::rows::is_same;
 use jcard_outcomes::standing::Left;
-use jcard_sweeps::at_command::AtCommand;
+use jcard_sweeps::at_command::{AtCommand, at_command};
 use jcard_sweeps::report::told;
 use jcard_sweeps::shares::share_in;
 use std::alloc::{AllocError, Global};
@@ -156,7 +156,13 @@ fn strikes_of(
     let shared = Shared {
         words,
         attacked,
-        card: kept_for(alloc, words, attacked),
+        card: at_command(
+            alloc,
+            words,
+            attacked.instructions,
+            attacked.before,
+            attacked.line,
+        ),
         baseline,
     };
     let strikes = strike_each(alloc, &shared, faults);

@@ -30,18 +30,14 @@ pub fn at_command(
     ensures { IfSome result (IsAtCommand words.now instructions before.now line.now) }
 {
     let command = command_of_line(line)?;
-    keep_room(alloc);
+    // Room is taken once and given back. The allocator of the C library keeps from then on what is given back, up to twice as much, in place of
+    // giving it to the system and asking for it again for each copy of the card.
+    let room: Result<Vec<u8>, AllocError> = Vec::with_capacity(alloc, KEPT_ROOM);
+    drop(room);
     let Ok(copy) = Vec::from_slice(alloc, words) else {
         return None;
     };
     let store = FuseStore::new(MemStore::of(copy));
     let begun = begin_script(alloc, store, instructions, before)?;
     Some(AtCommand { begun, command })
-}
-
-// Takes room once and gives it back. The allocator of the C library keeps from then on what is given back, up to twice as much, in place of giving
-// it to the system and asking for it again for each copy of the card.
-fn keep_room(alloc: Global) {
-    let room: Result<Vec<u8>, AllocError> = Vec::with_capacity(alloc, KEPT_ROOM);
-    drop(room);
 }

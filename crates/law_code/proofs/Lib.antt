@@ -36,7 +36,6 @@ pub mod Exits
 pub mod StackCells
 pub mod StepsInMethod
 pub mod ObjectsInReach
-pub mod MethodSelection
 pub mod AccessChecks
 pub mod EffectConditions
 pub mod Instructions

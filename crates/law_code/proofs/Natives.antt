@@ -53,7 +53,7 @@ use Rattle.jc_api.specs.declared.pairing.NewPair.{NewPair}
 use Rattle.jc_api.specs.Initializing.{FieldsAnswer, word_given, words_given}
 use Rattle.jc_api.proofs.EngineRoom.{with_array}
 use Rattle.jc_api.proofs.Due.{Anything}
-use Rattle.jc_api.proofs.PairingCalls.{NamesBoth, NamesSo}
+use Rattle.jc_api_pairs.proofs.PairingCalls.{NamesBoth, NamesSo}
 use Rattle.jc_api.proofs.Passing.{IsInitializing}
 use Rattle.jc_api.proofs.Standing.{facts_after_run, item_after_object, object-set_cell, object_after_transient}
 use Rattle.jc_api.proofs.Stretches.{IsStretch}

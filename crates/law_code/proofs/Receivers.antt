@@ -42,7 +42,7 @@ use Rattle.jc_instructions.specs.declared.invoke.MethodCall.{MethodCall}
 use Rattle.jc_instructions.specs.Invoke.{call_decision, call_of, class_of, is_native_constructor, method_selection, receiver_of, receiver_on}
 use Rattle.jc_api.proofs.Reaching.{err_not_ok, object_is, one_context, own_reach, same_Ok}
 use Rattle.jc_api.proofs.Stretches.{both_ok}
-use Rattle.law_code.proofs.MethodSelection.{Bare, Found, IsSought, Named, Selected, is_there, selected}
+use Rattle.jc_instructions.proofs.MethodSelection.{Bare, Found, IsSought, Named, Selected, is_there, selected}
 use Rattle.law_code.specs.IsolationLaws.Steps.{NamesStatics}
 
 -- ---- what the firewall allows without a switch

@@ -31,7 +31,7 @@ use Rattle.jc_api.specs.Pairing.{named_in, pair_words}
 use Rattle.jc_api.specs.declared.pairing.NamedObject.{NamedObject}
 use Rattle.jc_api.specs.declared.pairing.NamedObject.TheVariants.{Argument, New}
 use Rattle.jc_api.proofs.Due.{Anything}
-use Rattle.jc_api.proofs.PairingCalls.{NamesSo}
+use Rattle.jc_api_pairs.proofs.PairingCalls.{NamesSo}
 use Rattle.jc_api_pairs.proofs.PairForms.{FormsPass, of_forms}
 use Rattle.jc_interp.proofs.Calls.{method_due}
 use Rattle.law_code.proofs.Bytes.{store_due}

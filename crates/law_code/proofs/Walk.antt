@@ -72,7 +72,7 @@ use Rattle.law_code.specs.IsolationLaws.Steps.{IsCalled}
 use Rattle.jc_api.proofs.Due.{DueThen, due_of}
 use Rattle.jc_api.proofs.Exits.{FaultsOnly, IsPlainExit, plain_check, plain_end, plain_firewall, plain_object}
 use Rattle.jc_api.proofs.Reaching.{header_is}
-use Rattle.law_code.proofs.MethodSelection.{plain_selection}
+use Rattle.jc_instructions.proofs.MethodSelection.{plain_selection}
 use Rattle.law_code.proofs.Instructions.{arrays_due, checked_due, examined_due, fields_due, made_due}
 use Rattle.law_code.proofs.EffectConditions.{StepPasses}
 

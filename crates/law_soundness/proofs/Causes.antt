@@ -51,7 +51,7 @@ use Rattle.jc_api.specs.Pairing.{named_in, pair_words}
 use Rattle.jc_api.specs.declared.factory.NewEngine.{NewEngine}
 use Rattle.jc_api.specs.declared.pairing.NamedObject.{NamedObject}
 use Rattle.jc_api.specs.declared.pairing.NamedObject.TheVariants as named
-use Rattle.jc_api.proofs.PairingCalls.{NamesSo}
+use Rattle.jc_api_pairs.proofs.PairingCalls.{NamesSo}
 use Rattle.jc_api_pairs.proofs.PairForms.{FormsPass, of_forms}
 use Rattle.jc_api.proofs.Due.{Anything, DueThen, due_of, results_of}
 use Rattle.jc_api.proofs.Reaching.{err_not_ok, same_Ok}
@@ -68,7 +68,7 @@ use Rattle.law_code.proofs.Bytes.{store_due}
 use Rattle.law_code.proofs.StepsInMethod.{IsPlainNext, StaysIn}
 use Rattle.law_code.proofs.Instructions.{any_frame, any_reads, arrays_going, checked_going, examined_going, fields_going, made_going}
 use Rattle.law_code.proofs.EffectConditions.{ArraysPass, FieldsPass, InstancesPass}
-use Rattle.law_code.proofs.MethodSelection.{Bare, Found, Named, Selected, selected}
+use Rattle.jc_instructions.proofs.MethodSelection.{Bare, Found, Named, Selected, selected}
 use Rattle.law_code.proofs.Walk.{AnyCell, EntersPass, IsAlone, IsAnswered, LeavesPass, any_handed, walked_of, walked_step}
 use Rattle.law_code.specs.IsolationLaws.Steps.{IsCalled}
 use Rattle.law_soundness.specs.MachineLaws.OwnerSwitches.{AsksServer, Cause, Called, Asked, Left, FollowsWithin, HasLeft, IsOfStep, IsSwitchingCall, SwitchesHaveCauses}

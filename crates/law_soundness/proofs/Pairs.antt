@@ -36,7 +36,7 @@ use Rattle.jc_api.specs.declared.pairing.NamedObject.{NamedObject}
 use Rattle.jc_api.specs.declared.pairing.NamedObject.TheVariants.{Argument, New}
 use Rattle.jc_api.specs.declared.pairing.NewPair.{NewPair}
 use Rattle.jc_api.proofs.EngineRoom.{with_array}
-use Rattle.jc_api.proofs.PairingCalls.{IsReceiverOf, NamesBoth, NamesSo, PairsSo}
+use Rattle.jc_api_pairs.proofs.PairingCalls.{IsReceiverOf, NamesBoth, NamesSo, PairsSo}
 use Rattle.jc_api.proofs.Passing.{RefersToNew}
 use Rattle.jc_api.proofs.Reaching.{same_Ok}
 use Rattle.jc_api_pairs.proofs.PairForms.{AreOfPairs, FormsPass, IsOfPair, IsPairClass, IsPairNumber, IsReachedByte}

@@ -41,7 +41,7 @@ use Rattle.jc_instructions.specs.declared.invoke.MethodCall.{MethodCall}
 use Rattle.jc_instructions.specs.Invoke.{call_decision, call_of, class_of, is_native_constructor, is_of_any, method_selection, receiver_of, receiver_on}
 use Rattle.jc_api.proofs.Reaching.{err_not_ok, object_is, same_Ok}
 use Rattle.jc_api.proofs.Stretches.{both_ok}
-use Rattle.law_code.proofs.MethodSelection.{Bare, Found, Named, Selected, is_there, selected}
+use Rattle.jc_instructions.proofs.MethodSelection.{Bare, Found, Named, Selected, is_there, selected}
 use Rattle.law_code.specs.Classes.{KnowsClasses}
 use Rattle.law_soundness.specs.MemoryLaws.State.{IsSoundMemory, is_owner_up_to, last_own, most_owner}
 use Rattle.jc_platform.specs.Names.{aids_rows}

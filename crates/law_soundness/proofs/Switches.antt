@@ -29,7 +29,7 @@ use Rattle.jc_instructions.specs.declared.invoke.MethodCall.{MethodCall}
 use Rattle.jc_instructions.specs.Invoke.{call_decision, call_of, class_of, method_selection, receiver_of, receiver_on}
 use Rattle.jc_api.proofs.Reaching.{err_not_ok, object_is, same_Ok}
 use Rattle.jc_api.proofs.Stretches.{both_ok}
-use Rattle.law_code.proofs.MethodSelection.{Bare, Found, Named, Selected, selected}
+use Rattle.jc_instructions.proofs.MethodSelection.{Bare, Found, Named, Selected, selected}
 use Rattle.law_soundness.specs.MemoryLaws.Environment.{HasEnvironment}
 use Rattle.law_soundness.specs.MemoryLaws.Fit.{IsPlatformClass}
 use Rattle.law_code.specs.Platform.{KeepsPlatform}

@@ -15,7 +15,7 @@ use Rattle.jc_frames.specs.declared.cell.Cell.{Cell}
 use Rattle.jc_world.specs.Arrays.{bytes_in}
 use Rattle.jc_world.specs.declared.arrays.Stretch.{Stretch}
 use Rattle.jc_api.specs.Arguments.{counted_of}
-use Rattle.jc_api.proofs.ArgumentExits.{plain_counted}
+use Rattle.jc_api_framework.proofs.ArgumentExits.{plain_counted}
 use Rattle.jc_api.proofs.Due.{IsPlainCall, called_some, called_if, called_ok, called_then, called_unless}
 use Rattle.jc_api.proofs.Passing.{Turns}
 use Rattle.jc_api_framework.specs.Apdu.{apdu_get_buffer, apdu_receive_bytes, apdu_get_current_apdu, apdu_get_current_apdu_buffer, set_outgoing_in_phase}

@@ -14,7 +14,7 @@ use Rattle.jc_world.specs.Arrays.{bytes_in}
 use Rattle.jc_world.specs.Objects.{reference_argument}
 use Rattle.jc_world.specs.declared.native_result.NativeResult.{NativeResult}
 use Rattle.jc_api.specs.Arguments.{counted_of}
-use Rattle.jc_api.proofs.ArgumentExits.{plain_counted}
+use Rattle.jc_api_framework.proofs.ArgumentExits.{plain_counted}
 use Rattle.jc_api.proofs.Due.{DueThen, then_if, then_some, then_ok}
 use Rattle.jc_api.proofs.Exits.{IsPlainExit}
 use Rattle.jc_api_framework.specs.Aid.Cells.{is_aid_length}

@@ -29,7 +29,7 @@ use Rattle.jc_world.specs.Arrays.{bytes_in}
 use Rattle.jc_world.specs.Objects.{reference_argument, short_argument}
 use Rattle.jc_world.specs.declared.arrays.Stretch.{Stretch}
 use Rattle.jc_api.specs.Arguments.{argument_bytes, array_arguments, counted_of}
-use Rattle.jc_api.proofs.ArgumentExits.{plain_argument, plain_given, plain_counted}
+use Rattle.jc_api_framework.proofs.ArgumentExits.{plain_argument, plain_given, plain_counted}
 use Rattle.jc_api.proofs.Due.{IsPlainCall, called_some, called_after, due_if, called_ok, called_if}
 use Rattle.jc_api.proofs.Exits.{FaultsOnly}
 use Rattle.jc_api.proofs.Passing.{Turns}

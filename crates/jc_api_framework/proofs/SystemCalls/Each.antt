@@ -20,9 +20,9 @@ use Rattle.jc_frames.specs.declared.cell.Cell.{Cell}
 use Rattle.jc_world.specs.Arrays.{bytes_in}
 use Rattle.jc_world.specs.Objects.{short_argument, reference_argument, is_instance_of}
 use Rattle.jc_api.specs.Arguments.{counted_of, two_shorts_of}
-use Rattle.jc_api.proofs.ArgumentExits.{plain_counted}
+use Rattle.jc_api_framework.proofs.ArgumentExits.{plain_counted}
 use Rattle.jc_api.proofs.Due.{IsPlainCall, called_ok, called_some, called_if, called_unless}
-use Rattle.jc_api.proofs.OfShorts.{plain_two_shorts, two_shorts_is}
+use Rattle.jc_api_framework.proofs.OfShorts.{plain_two_shorts, two_shorts_is}
 use Rattle.jc_api.proofs.Passing.{Turns}
 use Rattle.jc_api_framework.specs.Aid.Cells.{is_aid_length}
 use Rattle.jc_api_framework.specs.System.Memory.{available_bytes, jc_system_get_available_memory, jc_system_get_available_memory_shorts}
