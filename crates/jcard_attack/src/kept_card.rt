@@ -1,18 +1,18 @@
 //! The card at a command, which is kept for all its faults: the lines before the command are carried out once.
-ghost use Rattle.std.specs.Prelude.{◌≡◌, ◌<◌, List, [], ℕ, length, IfOk, IfSome};
+ghost use Rattle.std.specs.Prelude.{◌≡◌, List, [], ℕ, IfOk, IfSome};
 ghost use Rattle.hex.specs.Hex.{encode_upper};
 ghost use Rattle.jcard_attack.specs.Aftermaths.{IsAftermath, glitch_line};
 ghost use Rattle.jcard_attack.specs.KeptCard.{HasStruck, IsKeptFor, Leaves, LeavesHeap};
 ghost use Rattle.jcard_attack.specs.declared.aftermaths.Attacked.{Attacked as AnAttacked};
 
-use crate::aftermaths::{Attacked, push_glitch};
+use crate::aftermaths::push_glitch;
 use crate::outcomes::Aftermath;
 use jc_card::planned_fault::PlannedFault;
 use jc_card::response::Response;
 use jc_words::MemStore;
 use jcard_outcomes::standing::Left;
 use jcard_script::begun::BegunScript;
-use jcard_sweeps::at_command::{AtCommand, at_command};
+use jcard_sweeps::at_command::AtCommand;
 use jcard_sweeps::runs::{probed, recovered, words_of};
 use std::alloc::{AllocError, Global};
 
