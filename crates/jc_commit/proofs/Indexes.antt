@@ -30,7 +30,7 @@ stands_named l w numbers n a i index found =
     list_any_at (λ x. x == a) (named_by l w n) k 0 (omega (arith, below, length-named_by l w n))
     (eq-eqb (get_or (named_by l w n) k 0) a (get_or-named_by l w n k 0 below ∙ found.names))
 
--- entries before a lower one are lower, those behind a higher one are higher
+-- entries before a lower one are lower, those after a higher one are higher
 pub lower_to : (l : Log) (w numbers : List ℕ) (n a m : ℕ) → IsIndexOf l w n numbers → m < length numbers → address_at l w (slice_index numbers m) < a
     → (k : ℕ) → k ≤ m → address_at l w (slice_index numbers k) < a
 lower_to l w numbers n a m index within lower k to = elim (cases_lt k m) [
@@ -45,7 +45,7 @@ higher_from l w numbers n a m index higher k from within = elim (cases_lt m k) [
   | inr there ↦ subst (λ (j : ℕ). a < address_at l w (slice_index numbers j)) (omega (arith, there, from)) higher
 ]
 
--- gaps before the first entry and behind the last one
+-- gaps before the first entry and after the last one
 pub gap_in_none : (l : Log) (w numbers : List ℕ) (a : ℕ) → length numbers ≡ 0 → IsGapFor l w numbers a 0
 gap_in_none l w numbers a none = record { within = omega arith; lower = λ k before. omega (arith, before); higher = λ k _ within. omega (arith, within, none) }
 

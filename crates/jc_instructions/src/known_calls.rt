@@ -72,7 +72,8 @@ fn other_found_below(
     found_below(own, class, token, method, linked)
 }
 
-// On instances of a class it finds this very method: the class is the one that the entry names, or has the method of it at once.
+// Whether a call on an instance of the first class is known at once to run the method that its entry names: that class is the entry's, or has
+// inherited the method from it. `false` says nothing.
 #[tactic(auto, using(crate::proofs::Same::method_itself, jc_world::proofs::Below::below_same, jc_linker::proofs::Inheriting::inherited_below, jc_linker::proofs::Inheriting::inherited_found))]
 #[inline(always)]
 fn finds_named(

@@ -68,7 +68,7 @@ fn unwind_callers<S: WordStore>(
     }
 }
 
-// It is thrown by the instruction at a place of the frame that runs.
+// An exception of this class is thrown by the instruction at a place of the frame that runs.
 #[tactic(auto, unfolding(crate::specs::Throw::unwind))]
 #[inline(always)]
 fn unwind<S: WordStore>(

@@ -240,7 +240,7 @@ impl Linked {
         self.inherits_at_once(own, class, token) || self.scope().inherits_method(own, class, token)
     }
 
-    /// The same where the first class is a loaded one right below the second one: no call is needed to know it.
+    /// The same where the first class is a loaded one right below the second one: no call is needed to know it. `false` says nothing.
     #[tactic(auto, using(crate::proofs::AtOnce::inherited_at_once))]
     #[inline(always)]
     pub fn inherits_at_once(&self, own: ClassWord, class: ClassWord, token: u8) -> bool

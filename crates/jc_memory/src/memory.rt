@@ -195,7 +195,7 @@ impl<S: WordStore> Memory<S> {
         }
     }
 
-    /// Whether an object is known to stand at an address: it is asked without a walk over the heap.
+    /// Whether an object is known to stand at an address: it is asked without a walk over the heap. `false` says nothing.
     #[inline(always)]
     pub fn knows(&self, reference: Ref) -> bool
         requires up { self.now.heap.down ≡ false }
