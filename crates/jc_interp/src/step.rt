@@ -8,6 +8,7 @@ ghost use Rattle.jc_frames.specs.declared.exceptions.Exception.{Exception};
 ghost use Rattle.jc_world.specs.declared.step_exit.StepExit.TheVariants.{End, Throw};
 ghost use Rattle.jc_memory.specs.Programs.{Executes, bind};
 ghost use Rattle.jc_world.specs.Instructions.{after_instruction};
+ghost use Rattle.jc_interp.specs.declared.frames_only.FramesExit.TheVariants.{Exit};
 ghost use Rattle.jc_interp.specs.Calling.{invoke_instruction};
 ghost use Rattle.jc_interp.specs.Step.{code_of, if_had, object_instruction, throw_from};
 ghost use Rattle.jc_interp.specs.PausedSteps.{EndsStep, IsOther, IsOtherPause, step_rest, memory_instruction, paused_rest};
@@ -15,7 +16,7 @@ ghost use Rattle.jc_interp.specs.PausedSteps.{EndsStep, IsOther, IsOtherPause, s
 use crate::calling::invoke_instruction;
 use crate::frames_only::{FramesExit, PausedStep};
 use jc_frames::instr::{ArrayOp, Instr, InvokeOp, ObjectOp, PrimitiveArray, ReturnOp};
-use jc_frames::{Frames, Outcome};
+use jc_frames::{FrameExit, Frames, Outcome};
 use jc_instructions::method_component::method_component_of;
 use jc_instructions::method_return::return_to_caller;
 use jc_instructions::throw::{athrow, throw};
@@ -187,26 +188,6 @@ fn execute<S: WordStore>(
     }
 }
 
-// Does what is left of an instruction at a place.
-#[inline(always)]
-fn resume<S: WordStore>(
-    why: &FramesExit,
-    place: u16,
-    frames: &mut Frames,
-    memory: &mut Memory<S>,
-    linked: &Linked,
-) -> Result<(), StepExit>
-    requires up { memory.old.heap.down ≡ false }
-    requires other { IsOtherPause why.now }
-    ensures { Executes (paused_rest why.now place linked.now frames.old memory.old) memory.old
-        (after_instruction result frames.new memory.new) }
-{
-    match why {
-        FramesExit::Exit(stop) => Err(StepExit::from(*stop)),
-        FramesExit::Needs(instr) => execute(instr, place, frames, memory, linked),
-    }
-}
-
 // Throws what an instruction at a place throws; any other exit stays. It is one call for all exits, out of line, so that an instruction that
 // goes on keeps no room for one.
 #[inline(never)]
@@ -268,31 +249,51 @@ fn finish_call<S: WordStore>(
     }
 }
 
-// Does what is left of a step at a pause that is neither a return nor a call, and throws what it throws.
-#[tactic(auto, using(jc_memory::proofs::ProgramLemmas::in_two_calls, crate::proofs::StepEnds::ended_step))]
+// The same of an instruction that ended so. What is handed over by memory has a function of its own in line, so that it is blanked on this way only.
 #[inline(always)]
-fn finish_other<S: WordStore>(
-    pause: &PausedStep,
+fn throw_ended<S: WordStore>(
+    ended: Result<(), StepExit>,
+    place: u16,
     frames: &mut Frames,
     memory: &mut Memory<S>,
     linked: &Linked,
 ) -> Result<(), StepExit>
-    requires up { memory.old.heap.down ≡ false }
-    requires other { IsOtherPause pause.now.why }
-    ensures { Executes (step_rest pause.now linked.now frames.old memory.old) memory.old
+    requires up { (e : Exception) → ended ≡ Err (Throw e) → memory.old.heap.down ≡ false }
+    ensures { EndsStep (after_instruction ended frames.old memory.old) place linked.now
         (after_instruction result frames.new memory.new) }
 {
-    match resume(&pause.why, pause.place, frames, memory, linked) {
+    match ended {
         Ok(()) => Ok(()),
         Err(exit) => {
-            throw_at(exit, pause.place, frames, memory, linked)?;
+            throw_at(exit, place, frames, memory, linked)?;
             Ok(())
         }
     }
 }
 
+// The same where frames alone did not go on. Code faults have a way of their own, so that the loop of all instructions keeps nothing ready for them.
+#[inline(always)]
+fn throw_stop<S: WordStore>(
+    stop: &FrameExit,
+    place: u16,
+    frames: &mut Frames,
+    memory: &mut Memory<S>,
+    linked: &Linked,
+) -> Result<(), StepExit>
+    requires up { memory.old.heap.down ≡ false }
+    ensures { Executes (step_rest (record { why = Exit stop.now; place = place }) linked.now
+        frames.old memory.old) memory.old (after_instruction result frames.new memory.new) }
+{
+    if let FrameExit::End(Outcome::Fault) = stop {
+        let fault = Err(StepExit::End(Outcome::Fault));
+        return throw_ended(fault, place, frames, memory, linked);
+    }
+    throw_ended(Err(StepExit::from(*stop)), place, frames, memory, linked)
+}
+
 /// Does what is left of a step at a pause, and throws what it throws. The end of a method throws nothing, so it takes no way out of line. Returns
-/// and calls come first, so that they need no memory for what others throw.
+/// and calls have ways of their own, so that they need no memory for what others throw.
+#[tactic(auto, using(jc_memory::proofs::ProgramLemmas::in_two_calls, crate::proofs::StepEnds::ended_step))]
 #[inline(always)]
 pub(crate) fn finish<S: WordStore>(
     pause: &PausedStep,
@@ -304,14 +305,18 @@ pub(crate) fn finish<S: WordStore>(
     ensures { Executes (step_rest pause.now linked.now frames.old memory.old) memory.old
         (after_instruction result frames.new memory.new) }
 {
-    if let FramesExit::Needs(instr) = &pause.why {
-        match instr {
-            Instr::Return(how) => return return_if_had(*how, frames, memory),
-            Instr::Invoke(call) => {
-                return finish_call(*call, pause.place, frames, memory, linked);
+    match &pause.why {
+        FramesExit::Exit(stop) => throw_stop(stop, pause.place, frames, memory, linked),
+        FramesExit::Needs(instr) => match instr {
+            Instr::Return(how) => return_if_had(*how, frames, memory),
+            Instr::Invoke(call) => finish_call(*call, pause.place, frames, memory, linked),
+            _ => {
+                let ended = execute(instr, pause.place, frames, memory, linked);
+                if ended.is_ok() {
+                    return Ok(());
+                }
+                throw_ended(ended, pause.place, frames, memory, linked)
             }
-            _ => {}
-        }
+        },
     }
-    finish_other(pause, frames, memory, linked)
 }

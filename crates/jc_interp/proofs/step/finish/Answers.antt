@@ -1,8 +1,12 @@
 -- The end of a method throws nothing, and a package has each call that does not end by a code fault anyway.
-use Rattle.std.proofs.Common.{sym, subst}
+use Rattle.std.proofs.Common.{rules, refl, sym, subst}
+use Rattle.jc_heap.specs.Completions.{Completed}
 use Rattle.jc_memory.specs.Programs.{Executes, bind}
+use Rattle.jc_frames.specs.Frames.{GoesOn}
 use Rattle.jc_world.specs.Instructions.{after_instruction}
 use Rattle.jc_interp.specs.Step.{throw_from}
+use Rattle.jc_interp.specs.PausedSteps.{paused_rest}
+use Rattle.jc_interp.proofs.StepEnds.{ended_step}
 use Rattle.jc_interp.proofs.Lent.{had_call}
 use Rattle.jc_interp.proofs.QuietReturns.{return_step}
 use Rattle.jc_interp.proofs.step.finish.Goals as goal
@@ -17,3 +21,11 @@ returns-in-Invoke g c =
     rw (c.in-Needs.is, c.in-Invoke.is) (subst (λ program. Executes (bind program c.args.memory.now
     (λ next v. throw_from c.args.pause.now.place c.args.linked.now next v)) c.args.memory.now after)
     (sym (had_call c.in-Invoke.call c.args.pause.now.place c.args.linked.now c.args.frames.now c.args.memory.now)) c.finish_call.ensures)
+
+pub returns-then-is_ok : goal.returns-then-is_ok
+returns-then-is_ok g c =
+    let made : Executes (paused_rest c.args.pause.now.why c.args.pause.now.place c.args.linked.now c.args.frames.now c.args.memory.now) c.args.memory.now
+    (Completed (GoesOn c.execute-ended.new.frames) c.execute-ended.new.memory) = search rules in
+    ended_step (paused_rest c.args.pause.now.why c.args.pause.now.place c.args.linked.now c.args.frames.now c.args.memory.now) c.args.memory.now
+    (Completed (GoesOn c.execute-ended.new.frames) c.execute-ended.new.memory) (Completed (GoesOn c.execute-ended.new.frames) c.execute-ended.new.memory)
+    c.args.pause.now.place c.args.linked.now made (refl, refl)
