@@ -36,11 +36,6 @@ IsOther (Return how) = ⊥
 IsOther (Invoke call) = ⊥
 IsOther other = Unit {0}
 
--- where an instruction needs more than frames, it is neither a return nor a call
-abbrev pub IsOtherPause : FramesExit → Type 0
-IsOtherPause (Exit stop) = Unit {0}
-IsOtherPause (Needs instr) = IsOther instr
-
 -- this holds where an instruction needs more than frames
 abbrev pub WhereNeeded : FramesExit → Type 0 → Type 0
 WhereNeeded (Exit stop) T = Unit {0}

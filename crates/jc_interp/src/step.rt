@@ -11,7 +11,7 @@ ghost use Rattle.jc_world.specs.Instructions.{after_instruction};
 ghost use Rattle.jc_interp.specs.declared.frames_only.FramesExit.TheVariants.{Exit};
 ghost use Rattle.jc_interp.specs.Calling.{invoke_instruction};
 ghost use Rattle.jc_interp.specs.Step.{code_of, if_had, object_instruction, throw_from};
-ghost use Rattle.jc_interp.specs.PausedSteps.{EndsStep, IsOther, IsOtherPause, step_rest, memory_instruction, paused_rest};
+ghost use Rattle.jc_interp.specs.PausedSteps.{EndsStep, IsOther, step_rest, memory_instruction, paused_rest};
 
 use crate::calling::invoke_instruction;
 use crate::frames_only::{FramesExit, PausedStep};
