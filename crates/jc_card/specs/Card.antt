@@ -4,7 +4,6 @@ use Rattle.std.specs.Option.{option_and_then}
 use Rattle.jc_heap.specs.Heap.{HeapView}
 use Rattle.jc_linker.specs.Values.{Packages}
 use Rattle.jc_memory.specs.State.{MemoryState}
-use Rattle.jc_memory.specs.Power.{VolatileState}
 use Rattle.jc_environment.specs.Aid.{aid_at}
 use Rattle.jc_environment.specs.Registry.{aid_of_applet}
 use Rattle.jc_interp.specs.declared.attacks.Budget.{Budget}
@@ -14,13 +13,6 @@ use Rattle.jc_packages.specs.declared.load.OpenLoad.{OpenLoad}
 -- attack that may come among them
 pub record CardState : Type 0 where
   pub memory : MemoryState
-  pub packages : Packages
-  pub load : Option OpenLoad
-  pub budget : Budget
-
--- all but the heap
-pub record RestState : Type 0 where
-  pub volatile : VolatileState
   pub packages : Packages
   pub load : Option OpenLoad
   pub budget : Budget

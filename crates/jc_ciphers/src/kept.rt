@@ -5,8 +5,8 @@ pub mod conversion;
 pub mod hmac;
 pub mod macs;
 
-ghost use Rattle.std.specs.Prelude.{◌≡◌, ◌≤◌, ◌↔◌, IsTrue};
-ghost use Rattle.jc_ciphers.specs.Kept.{IsKeyLength, block_size, state_size};
+ghost use Rattle.std.specs.Prelude.{◌≡◌, ◌≤◌};
+ghost use Rattle.jc_ciphers.specs.Kept.{block_size, state_size};
 
 /// The block ciphers. The length of a key says which: 16, 24 or 32 bytes of AES, 8 of DES, 16 or 24 of triple DES.
 #[derive(Clone, Copy)]
@@ -42,16 +42,6 @@ impl BlockAlgorithm {
         match self {
             BlockAlgorithm::Aes => 34,
             BlockAlgorithm::Des => 18,
-        }
-    }
-
-    /// Whether keys may have this many bytes.
-    pub fn takes_key_length(self, length: usize) -> bool
-        ensures { IsTrue result ↔ IsKeyLength self length }
-    {
-        match self {
-            BlockAlgorithm::Aes => length == 16 || length == 24 || length == 32,
-            BlockAlgorithm::Des => length == 8 || length == 16 || length == 24,
         }
     }
 }

@@ -52,14 +52,6 @@ pub struct Subject {
 }
 
 impl Subject {
-    /// What an access has that touches no object: that to a static field, and the storing of null.
-    pub const NONE: Subject = Subject {
-        owner: Context::Jcre,
-        designation: Designation::Ordinary,
-        has_shareable_interface: false,
-        is_clear_on_deselect: false,
-    };
-
     pub(crate) const fn is_entry_point(self) -> bool
         ensures { result ≡ is_entry_point self }
     {

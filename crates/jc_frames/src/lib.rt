@@ -22,7 +22,6 @@ pub mod method;
 pub mod operands;
 pub mod outcome;
 pub mod reasons;
-pub mod return_ops;
 pub mod short;
 mod stack;
 pub mod stack_ops;

@@ -1,5 +1,4 @@
 pub mod Registers
-pub mod Power
 pub mod State
 pub mod Programs
 pub mod Reading

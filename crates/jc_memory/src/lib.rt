@@ -17,7 +17,6 @@ mod making;
 mod marks;
 mod memory;
 mod notes;
-mod power;
 mod program_laws;
 mod registers;
 mod shortages;
@@ -39,7 +38,6 @@ pub use notes::{
     Cause, Denial, FaultKind, MOST_AID, MOST_SPOTS, Member, MemberKind, Note, Notes, Phase,
     RefusedLoad, Shortage, Space, Spot, Step, TopCell,
 };
-pub use power::Volatile;
 pub use program_laws::{
     aborts_null_dead_references, calls_follow_one_another, losses_fall_before_a_move,
     new_references_are_fresh,

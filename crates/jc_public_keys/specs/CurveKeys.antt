@@ -20,10 +20,6 @@ point_bytes size (At x y) = Some (0x04 ∷ bytes_of_number size x ++ bytes_of_nu
 unfoldable pub public_on : CurveNumbers → ℕ → Option (List ℕ)
 public_on c d = if is_in_order c d then option_and_then (point_bytes (octets c.p_bits)) (multiple_of c.p c.a d (At c.x c.y)) else None
 
--- the public key of a private one, where there is one
-unfoldable pub public_key : CurveBytes → List ℕ → Option (List ℕ)
-public_key c private = option_and_then (λ curve. public_on curve (number_of_bytes private)) (curve_numbers c)
-
 -- ---- key pairs
 
 -- a private key, in as many bytes as n is given by, and its public key

@@ -3,7 +3,7 @@ ghost use Rattle.std.specs.Prelude.{◌≡◌, ◌≤◌, [], ◌<◌, ◌+◌, 
 ghost use Rattle.jc_numbers.specs.Numbers.{IsBitLength, number_of_bytes};
 ghost use Rattle.jc_curves.specs.Curves.{AreShort, octets};
 ghost use Rattle.jc_public_keys.specs.CurveBytes.{bits_of, bytes_of};
-ghost use Rattle.jc_public_keys.specs.CurveKeys.{CurveKeyPair, key_pair_of, pair_at, public_key, public_on};
+ghost use Rattle.jc_public_keys.specs.CurveKeys.{key_pair_of, pair_at, public_on};
 ghost use Rattle.jc_public_keys.specs.RandomNumbers.{first_try, random_bits};
 ghost use Rattle.jc_public_keys.specs.Rsa.{bytes_of_number};
 
@@ -23,20 +23,6 @@ fn put_public_on(curve: &Curve, private: &[u8], to: &mut [u8]) -> bool
     match public_point(curve, private, to) {
         Ok(()) => true,
         Err(_) => false,
-    }
-}
-
-/// Writes the public key of a private one: 04, x and y, each in as many bytes as p is given by. It returns false where there is none: where the
-/// parameters describe no curve, or the private key is not from 1 to n - 1.
-pub fn put_public_key(parameters: &Parameters, private: &[u8], to: &mut [u8]) -> bool
-    requires short { AreShort parameters.now }
-    requires private { length private.now ≤ MOST_BYTES }
-    requires room { length to.old ≡ 1 + 2 * length parameters.now.field.now }
-    ensures { (if result then Some to.new else None) ≡ public_key (bytes_of parameters.now) private.now }
-{
-    match curve_with_numbers(parameters) {
-        Some(curve) => put_public_on(&curve, private, to),
-        None => false,
     }
 }
 

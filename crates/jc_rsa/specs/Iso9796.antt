@@ -1,18 +1,7 @@
 -- Digital signature scheme 1 of ISO/IEC 9796-2, of moduli of whole bytes.
-use Rattle.std.specs.Prelude.{◌≡◌, ◌≤◌, ℕ, zero, suc, ◌+◌, ◌-◌, Bool, IsTrue, List, [], ◌∷◌, ◌++◌, Option, Some, None, length, replicate, if◌then◌else◌}
-use Rattle.jc_digests.specs.declared.kept.HashAlgorithm.{HashAlgorithm}
-use Rattle.jc_digests.specs.declared.kept.HashAlgorithm.TheVariants.{Md5, Sha1, Sha224, Sha256, Sha384, Sha512}
+use Rattle.std.specs.Prelude.{◌≡◌, ◌≤◌, ℕ, zero, suc, ◌+◌, ◌-◌, Bool, IsTrue, List, [], ◌∷◌, ◌++◌, length, replicate, if◌then◌else◌}
 use Rattle.jc_rsa.specs.declared.iso_9796.Trailer.{Trailer}
 use Rattle.jc_rsa.specs.declared.iso_9796.Trailer.TheVariants.{Implicit, Explicit}
-
--- the identifier of a hash function (ISO/IEC 10118-3); MD5 has none
-abbrev pub hash_identifier : HashAlgorithm → Option ℕ
-hash_identifier Md5 = None
-hash_identifier Sha1 = Some 0x33
-hash_identifier Sha224 = Some 0x38
-hash_identifier Sha256 = Some 0x34
-hash_identifier Sha384 = Some 0x36
-hash_identifier Sha512 = Some 0x35
 
 -- the trailer: BC, or an identifier and CC
 abbrev pub trailer_bytes : Trailer → List ℕ

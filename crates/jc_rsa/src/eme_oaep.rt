@@ -9,13 +9,6 @@ use crate::hashing::{MOST_DIGEST, put_digest};
 use crate::mgf1::mask;
 use jc_digests::kept::HashAlgorithm;
 
-/// How many bytes an encoding has beside its message, at least.
-pub fn least_overhead(algorithm: HashAlgorithm) -> usize
-    ensures { result ≡ 2 * digest_size algorithm + 2 }
-{
-    2 * algorithm.digest_size() + 2
-}
-
 // Writes DB: the digest of the empty label, zeros, the byte 01, and the message.
 fn put_data_block(algorithm: HashAlgorithm, message: &[u8], to: &mut [u8])
     requires { length message.now + digest_size algorithm + 1 ≤ length to.old }

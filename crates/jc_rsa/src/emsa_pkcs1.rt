@@ -3,11 +3,11 @@
 //! Java Card's `ALG_RSA_MD5_PKCS1`, `ALG_RSA_SHA_PKCS1` and those over SHA-2 encode a `DigestInfo`, which names the hash function
 //! with parameters NULL; a `Cipher` of `ALG_RSA_PKCS1` under a private key encodes data as they are.
 
-ghost use Rattle.std.specs.Prelude.{◌≡◌, ◌≤◌, ◌+◌, ◌↔◌, ℕ, IsTrue, List, MatchOption, length};
+ghost use Rattle.std.specs.Prelude.{◌≡◌, ◌≤◌, ◌+◌, ◌↔◌, IsTrue, length};
 ghost use Rattle.jc_digests.specs.Kept.{digest_size};
 ghost use Rattle.jc_rsa.specs.EmsaPkcs1.{IsSignatureBlock, digest_info, digest_info_prefix, digest_info_size, signature_block};
 
-use crate::bytes::{MOST_ENCODING, first_zero, put, put_repeated, same};
+use crate::bytes::{MOST_ENCODING, put, put_repeated, same};
 use jc_digests::kept::HashAlgorithm;
 
 /// The fewest bytes of an encoding beside its data: three that are fixed, and eight of padding.
@@ -96,23 +96,6 @@ pub fn is_encoding_of_data(contents: &[u8], encoding: &[u8]) -> bool
     let expected = &mut buffer[..encoding.len()];
     encode_data(contents, expected);
     same(expected, encoding)
-}
-
-/// Returns the data of an encoding, or nothing where it is no encoding.
-pub fn decode_data(encoding: &[u8]) -> Option<&[u8]>
-    requires { length encoding.now ≤ MOST_ENCODING }
-    ensures { MatchOption result ((contents : List ℕ) → ¬ (IsSignatureBlock contents encoding.now))
-        (λ contents. IsSignatureBlock contents.now encoding.now) }
-{
-    let Some(end) = first_zero(encoding, 2) else {
-        return None;
-    };
-    let contents = &encoding[end + 1..];
-    if is_encoding_of_data(contents, encoding) {
-        Some(contents)
-    } else {
-        None
-    }
 }
 
 /// Writes the encoding of a message's digest: that of its DigestInfo.

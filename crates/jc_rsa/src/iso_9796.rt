@@ -3,7 +3,7 @@
 //! Java Card's `ALG_RSA_SHA_ISO9796` and `ALG_RSA_SHA_ISO9796_MR` use it with SHA-1 and the trailer BC.
 
 ghost use Rattle.std.specs.Prelude.{◌≡◌, ◌≤◌, ◌+◌, ◌++◌, ◌↔◌, ℕ, Bool, IsTrue, List, MatchOption, length, take};
-ghost use Rattle.jc_rsa.specs.Iso9796.{IsRepresentative, capacity, hash_identifier, header, heading, representative, trailer_bytes};
+ghost use Rattle.jc_rsa.specs.Iso9796.{IsRepresentative, capacity, header, heading, representative, trailer_bytes};
 
 use crate::bytes::{MOST_ENCODING, first_other, put, put_repeated, same};
 use jc_digests::kept::HashAlgorithm;
@@ -39,20 +39,6 @@ impl Trailer {
             Trailer::Implicit => 1,
             Trailer::Explicit(_) => 2,
         }
-    }
-}
-
-/// The identifier of a hash function (ISO/IEC 10118-3); MD5 has none.
-pub fn hash_identifier(algorithm: HashAlgorithm) -> Option<u8>
-    ensures { result ≡ hash_identifier algorithm }
-{
-    match algorithm {
-        HashAlgorithm::Md5 => None,
-        HashAlgorithm::Sha1 => Some(0x33),
-        HashAlgorithm::Sha224 => Some(0x38),
-        HashAlgorithm::Sha256 => Some(0x34),
-        HashAlgorithm::Sha384 => Some(0x36),
-        HashAlgorithm::Sha512 => Some(0x35),
     }
 }
 

@@ -106,14 +106,6 @@ impl<'a> MemDisk<'a> {
         }
     }
 
-    /// Gives the images back.
-    pub fn into_images(self) -> Vec<ImageFile>
-        ensures { result.items ≡ self.entry.images }
-    {
-        let MemDisk { images, .. } = self;
-        images
-    }
-
     // Keeps an image in the place of the one with its name, or after all others.
     fn keep(&mut self, image: ImageFile) -> Result<(), AllocError>
         ensures kept { IfOk result (λ _. self.new ≡ record self.old {

@@ -10,7 +10,7 @@ const BEGINNING: usize = 1024;
 #[derive(Drop)]
 pub(crate) struct LineText {
     // The first bytes.
-    beginning: ArrayVec<u8, 1024>,
+    beginning: ArrayVec<u8, BEGINNING>,
     // How many bytes came.
     length: usize,
     // The first byte that no command has, and its column.

@@ -52,28 +52,6 @@ fn holds_back(direction: Direction, padding: Padding) -> bool
     }
 }
 
-// How many blocks of n bytes are converted.
-fn ready_blocks(holds: bool, size: usize, n: usize) -> usize
-    requires { 1 ≤ size }
-    ensures { result ≡ ready_blocks holds size n }
-{
-    if holds {
-        n.saturating_sub(1) / size
-    } else {
-        n / size
-    }
-}
-
-/// How many bytes `update_conversion` hands out where `n` bytes are open or come: those of the whole blocks, but for the last one where
-/// a padding may stand in it.
-pub fn released(conversion: &Conversion, n: usize) -> usize
-    ensures { result ≡ released conversion.now n }
-{
-    let size = conversion.algorithm.block_size();
-    let holds = holds_back(conversion.direction, conversion.padding);
-    ready_blocks(holds, size, n) * size
-}
-
 // ---- states, whatever the mode
 
 // Reads a state: the chaining block, the open block, and how many bytes of that came.
