@@ -38,7 +38,7 @@ pub enum InstanceCells {
     Engine,
     /// The algorithm of a `KeyPair` and its two keys, or of a `KeyAgreement` with its state and its key.
     Pair,
-    /// The algorithm of a cipher, its state, key, mode and vector, two bytes in a cell.
+    /// The algorithm of a cipher or a signature, its state, key, mode and vector, two bytes in a cell.
     Cipher,
 }
 
