@@ -1,7 +1,9 @@
 -- Known answers under the definitions, so that a wrong step or table does not check.
-use Rattle.std.proofs.Common.{◌≡◌, ℕ, List, [], ◌∷◌, refl}
+use Rattle.std.proofs.Common.{◌≡◌, ℕ, List, [], ◌∷◌, refl, sym, ap, ◌∙◌}
 use Rattle.jc_ciphers.specs.TripleDes.{parts_of, triple_decrypted, triple_encrypted}
 use Rattle.jc_ciphers.specs.Des.{listed, schedule, halves, rounds, round, mangled, right_of, crypted, encrypted, decrypted}
+use Rattle.jc_ciphers.proofs.ByteLists.{each_byte}
+use Rattle.jc_ciphers.proofs.DesInverses.{deciphered, triple_deciphered}
 
 abbrev key : List ℕ
 key = 0x13 ∷ 0x34 ∷ 0x57 ∷ 0x79 ∷ 0x9b ∷ 0xbc ∷ 0xdf ∷ 0xf1 ∷ []
@@ -17,8 +19,7 @@ unfolding listed schedule halves rounds round mangled right_of crypted encrypted
 encrypted_example = refl
 
 pub decrypted_example : decrypted key ciphered ≡ plain
-unfolding listed schedule halves rounds round mangled right_of crypted decrypted
-decrypted_example = refl
+decrypted_example = sym (ap (decrypted key) encrypted_example) ∙ deciphered key plain (record { long = refl; byte = each_byte plain refl })
 
 -- SP 800-67, B.1: the first block under three keys
 abbrev keys : List ℕ
@@ -35,5 +36,6 @@ unfolding listed schedule halves rounds round mangled right_of crypted encrypted
 triple_encrypted_example = refl
 
 pub triple_decrypted_example : triple_decrypted (parts_of keys) triple_ciphered ≡ triple_plain
-unfolding listed schedule halves rounds round mangled right_of crypted encrypted decrypted triple_decrypted
-triple_decrypted_example = refl
+triple_decrypted_example =
+    sym (ap (triple_decrypted (parts_of keys)) triple_encrypted_example)
+    ∙ triple_deciphered (parts_of keys) triple_plain (record { long = refl; byte = each_byte triple_plain refl })

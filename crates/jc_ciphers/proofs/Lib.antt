@@ -1,3 +1,4 @@
+pub mod ByteLists
 pub mod AesTables
 pub mod AesProducts
 pub mod AesXor
