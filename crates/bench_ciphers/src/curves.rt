@@ -132,7 +132,8 @@ fn signature_of(alloc: Global, curve: &Curve, parts: &[Vec<u8>]) -> Result<Strin
     }
     let size = curve.order_length();
     let mut to = [0; 2 * MOST_BYTES];
-    let (r, s) = to[..2 * size].split_at_mut(size);
+    let to = &mut to[..2 * size];
+    let (r, s) = to.split_at_mut(size);
     let made = sign(
         curve,
         parts[0].as_slice(),
@@ -142,7 +143,7 @@ fn signature_of(alloc: Global, curve: &Curve, parts: &[Vec<u8>]) -> Result<Strin
         s,
     );
     match made {
-        Ok(()) => hex::encode(alloc, &to[..2 * size]),
+        Ok(()) => hex::encode(alloc, &*to),
         Err(_) => Ok(String::new(alloc)),
     }
 }

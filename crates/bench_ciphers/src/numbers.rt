@@ -178,10 +178,11 @@ fn quotient(alloc: Global, first: &[u8], second: &[u8]) -> Result<String, AllocE
     let mut rest = [0; MOST_LIMBS];
     divide(&mut quotient, &mut rest, &number, &divisor);
     let mut answer = [0; 1024];
-    let end = first.len() + second.len();
-    to_bytes(&mut answer[..first.len()], &quotient);
-    to_bytes(&mut answer[first.len()..end], &rest);
-    hex::encode(alloc, &answer[..end])
+    let answer = &mut answer[..first.len() + second.len()];
+    let (quotient_bytes, rest_bytes) = answer.split_at_mut(first.len());
+    to_bytes(quotient_bytes, &quotient);
+    to_bytes(rest_bytes, &rest);
+    hex::encode(alloc, &*answer)
 }
 
 fn inverse_of_any(alloc: Global, first: &[u8], second: &[u8]) -> Result<String, AllocError>
@@ -197,6 +198,7 @@ fn inverse_of_any(alloc: Global, first: &[u8], second: &[u8]) -> Result<String, 
     let mut result = [0; MOST_LIMBS];
     let _found = invert(&mut result, &residue, &limbs);
     let mut answer = [0; 512];
-    to_bytes(&mut answer[..second.len()], &result);
-    hex::encode(alloc, &answer[..second.len()])
+    let answer = &mut answer[..second.len()];
+    to_bytes(answer, &result);
+    hex::encode(alloc, &*answer)
 }
