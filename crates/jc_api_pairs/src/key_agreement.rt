@@ -189,11 +189,11 @@ fn put_shared<S: WordStore>(
     }
     let size = parts.curve.field.count as usize;
     let mut buffer = [0; MOST_NUMBER];
-    let done = put_shared_x(parts, factor, public, memory, &mut buffer[..size]);
-    if !done {
+    let x = &mut buffer[..size];
+    if !put_shared_x(parts, factor, public, memory, x) {
         return Err(StepExit::Throw(ILLEGAL_VALUE));
     }
-    put_of(secret, &buffer[..size], args, memory, linked)
+    put_of(secret, x, args, memory, linked)
 }
 
 /// `KeyAgreement.generateSecret`: puts the secret that the private key shares with the holder of this public key, an uncompressed point of its
