@@ -1,5 +1,5 @@
 //! What becomes of the state of a message.
-ghost use Rattle.std.specs.Prelude.{◌≡◌, ◌≤◌, ◌*◌, false, length, Some, pos, Ok};
+ghost use Rattle.std.specs.Prelude.{◌≡◌, ◌≤◌, ◌*◌, false, length, replicate, Some, pos, Ok};
 ghost use Rattle.jc_memory.specs.Programs.{Executes};
 ghost use Rattle.jc_digests.specs.Kept.{digest_of_state, digest_size};
 ghost use Rattle.jc_world.specs.Arrays.{IsInArray};
@@ -123,6 +123,15 @@ pub(crate) fn finish<S: WordStore>(
     put_and_forget(own, to, bytes, memory, linked)
 }
 
+// The shorts of a state to which nothing came, of as many as the longest has.
+fn nothing_came<'a>(own: &RunningDigest, zeros: &'a [u16]) -> &'a [u16]
+    requires zeros { zeros.now ≡ replicate MOST_SHORTS 0 }
+    ensures words { result.now ≡ nothing_came own.now }
+    ensures few { length result.now ≤ MOST_SHORTS }
+{
+    &zeros[..digest_shorts(own.algorithm) as usize]
+}
+
 /// What came is forgotten.
 pub(crate) fn forget<S: WordStore>(
     own: &RunningDigest,
@@ -134,11 +143,10 @@ pub(crate) fn forget<S: WordStore>(
         memory.old (after_call result memory.new) }
 {
     let zeros = [0; MOST_SHORTS];
-    let words = &zeros[..digest_shorts(own.algorithm) as usize];
     let state = StateWords {
         array: own.state.array,
         start: 0,
-        words,
+        words: nothing_came(own, &zeros),
     };
     change_state(state, None, memory, linked)
 }
