@@ -61,10 +61,10 @@ fn set_aid<S: WordStore>(
     if !is_aid_length(e.count) {
         return Err(StepExit::Throw(ILLEGAL_VALUE));
     }
-    let count = e.count as usize;
     let mut bytes = [0; MOST_AID];
-    memory.bytes(e.array, e.start, &mut bytes[..count]);
-    let cells = cells_of_aid(&bytes[..count]);
+    let aid = &mut bytes[..e.count as usize];
+    memory.bytes(e.array, e.start, aid);
+    let cells = cells_of_aid(aid);
     construct(&cells, args, memory)
 }
 
@@ -169,8 +169,8 @@ fn agrees_with<S: WordStore>(extent: Extent, aid: &[u8], e: Stretch, memory: &Me
         return false;
     }
     let mut bytes = [0; MOST_AID];
-    memory.bytes(e.array, e.start, &mut bytes[..count]);
-    let held = &bytes[..count];
+    let held = &mut bytes[..count];
+    memory.bytes(e.array, e.start, held);
     agrees_with_bytes(extent, aid, held)
 }
 

@@ -82,10 +82,10 @@ fn aid_of_elements<S: WordStore>(e: Stretch, memory: &Memory<S>) -> Ref
     if !is_aid_length(e.count) {
         return Ref::null();
     }
-    let count = e.count as usize;
     let mut bytes = [0; MOST_AID];
-    memory.bytes(e.array, e.start, &mut bytes[..count]);
-    let applet = applet_with_aid(memory, &bytes[..count]);
+    let aid = &mut bytes[..e.count as usize];
+    memory.bytes(e.array, e.start, aid);
+    let applet = applet_with_aid(memory, aid);
     aid_or_null(applet, memory)
 }
 
