@@ -114,8 +114,9 @@ pub fn initialize<S: WordStore>(
     let own = instance_called(class, start + values.len() as u16, args, memory, linked)?;
     let state = state_at(array, 0, words.len() as u16, memory, linked)?;
     let mut cells = [0; MOST_FIELDS];
-    put_words(values, args, &mut cells[..values.len()]);
-    memory.set_run(own, start, &cells[..values.len()])?;
+    let cells = &mut cells[..values.len()];
+    put_words(values, args, cells);
+    memory.set_run(own, start, cells)?;
     set_state(memory, state, words);
     Ok(NativeResult::ReturnVoid)
 }
