@@ -20,6 +20,7 @@ pub mod Streams
 pub mod PackageAdded
 pub mod NewPackages
 pub mod Following
+pub mod FirstWords
 pub mod NextObjects
 pub mod Keeping
 pub mod KeepingMoves

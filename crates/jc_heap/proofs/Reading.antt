@@ -185,6 +185,16 @@ module _ (ws : List ℕ) (r : ℕ) (laid : IsWellFormed ws) (there : IsObject (h
   pub record_within : r + length rec ≤ get_or ws top_address 0
   record_within = omega (arith, four, (word_is (length rec - 1) (omega (arith, four))).0)
 
+  -- the record begins with a header
+  pub header_said : length ws < 65536 → is_header (get_or ws r 0) ≡ true
+  header_said small = ap is_header (sym first_word) ∙ elim (cases_Bool (is_header (get_or rec 0 0))) [
+    | inl e ↦ e
+    | inr e ↦
+        let long : length rec ≡ 4 + 65536 = whole_record
+        ∙ ap (λ g. 4 + (if g then (if get_or rec 0 0 / 256 == 0 then words_of_cells (is_packed_header (get_or rec 0 0)) (get_or rec 3 0) else 1) else 65536)) e in
+        absurd (omega (arith, long, record_within, laid.fits, small))
+  ]
+
   pub cells_are : length ws < 65536 → get_or ws r 0 / 256 ≡ 0 → length (cells (heap_of ws) r) ≡ get_or ws (r + 3) 0
   cells_are small e =
       ap (λ t. length (cells_of t)) item_is

@@ -8,11 +8,12 @@ ghost use Rattle.jc_heap.specs.Image.{IsWellFormed};
 ghost use Rattle.jc_heap.specs.Heap.{heap_of, cells, facts, cell_address};
 ghost use Rattle.jc_heap.specs.Packed.{byte_in, with_byte, low_bytes};
 ghost use Rattle.jc_heap.specs.Place.{cell_at, HasPlace, MayHold};
+ghost use Rattle.jc_heap.specs.declared.place.Place.TheVariants.{Cell};
 ghost use Rattle.jc_heap.specs.Elements.{elements_of, word_for, byte_before, byte_behind, run_for};
 
 use crate::changes::{CellRun, Elements, PackedRun, Packing};
 use crate::layout::HEADER;
-use crate::object::is_packed_header;
+use crate::object::{Facts, is_packed_header};
 use crate::place::Place;
 use jc_commit::{Journal, LONGEST_WORD_RUN, WordChanges, WordRun, WriteRefusal};
 use jc_transient::Ref;
@@ -178,6 +179,37 @@ pub(crate) fn word_for<S: WordStore>(journal: &Journal<S>, place: &Place, v: u16
         if is_packed(journal, object) {
             return with_byte(journal.read(word_at(object, i / 2)), i, v);
         }
+    }
+    v
+}
+
+// The word of a cell of an object with this header.
+#[inline(always)]
+pub(crate) fn known_cell_word(header: Facts, object: Ref, i: u16) -> u16
+    requires { cell_at header object i < 65536 }
+    ensures { result ≡ cell_at header object i }
+{
+    let place = if header.is_packed() { i / 2 } else { i };
+    word_at(object, place)
+}
+
+// What that word says once the cell holds a value: the other element of its word stays.
+#[inline(always)]
+pub(crate) fn known_word_for<S: WordStore>(
+    journal: &Journal<S>,
+    header: Facts,
+    object: Ref,
+    i: u16,
+    v: u16,
+) -> u16
+    requires small { length journal.now.plain < 65536 }
+    requires header { header ≡ facts (heap_of journal.now.plain) object }
+    requires cell { i < length (cells (heap_of journal.now.plain) object) }
+    requires value { IsElement (facts (heap_of journal.now.plain) object).kind v }
+    ensures { result ≡ word_for journal.now.plain (Cell object i) v }
+{
+    if header.is_packed() {
+        return with_byte(journal.read(word_at(object, i / 2)), i, v);
     }
     v
 }

@@ -10,13 +10,16 @@ ghost use Rattle.jc_heap.specs.Heap.{KeepsBelowTop};
 ghost use Rattle.jc_heap.specs.Packed.{low_bytes};
 ghost use Rattle.jc_heap.specs.Elements.{elements_of};
 ghost use Rattle.jc_heap.specs.Heap.Store.{HoldsHeap, IsAtRest, heap_of_store_at_rest};
+ghost use Rattle.jc_heap.specs.declared.object.Kind.TheVariants.{Instance};
 ghost use Rattle.jc_heap.specs.declared.place.Place.TheVariants.{Cell};
 ghost use Rattle.jc_heap.specs.Moves.{Write, SetCells, Begin, Commit, Abort, PerformsMoves, PerformsMovesUnless, refusal_of_places, refusal_of_cells};
 ghost use Rattle.jc_heap.specs.Completions.{Completed, after_change, after_step};
 
 use crate::changes::Elements;
-use crate::elements::{cell_bytes, cell_value, change_run, run_for};
-use crate::lookup::{facts_at, next_behind};
+use crate::elements::{
+    cell_bytes, cell_value, change_run, known_cell_word, known_word_for, run_for,
+};
+use crate::lookup::{facts_at, is_persistent_instance, next_behind};
 use crate::object::Facts;
 use crate::place::Place;
 use crate::refusal::ChangeRefusal;
@@ -109,6 +112,17 @@ impl<S: WordStore> Heap<S> {
         facts_at(&self.journal, object)
     }
 
+    /// Whether an object is persistent and no array.
+    #[inline(always)]
+    pub fn is_persistent_instance(&self, object: Ref) -> bool
+        requires up { self.now.down ≡ false }
+        requires there { IsObject self.now.now object }
+        ensures { IsTrue result ↔ (((facts self.now.now object).event ≡ None)
+            × ((facts self.now.now object).kind ≡ Instance)) }
+    {
+        is_persistent_instance(&self.journal, object)
+    }
+
     /// The address that the next object gets: each object lies below it.
     pub fn top(&self) -> u16
         requires { self.now.down ≡ false }
@@ -153,6 +167,28 @@ impl<S: WordStore> Heap<S> {
             (after_change result self.new) (Write (Cell object i) v ∷ []) tt }
     {
         self.write(Place::Cell(object, i), v)
+    }
+
+    /// Sets a cell of a persistent object whose header says this. It is not read again.
+    #[inline(always)]
+    pub fn set_known(
+        &mut self,
+        object: Ref,
+        header: Facts,
+        i: u16,
+        v: u16,
+    ) -> Result<(), ChangeRefusal>
+        requires up { self.old.down ≡ false }
+        requires header { header ≡ facts self.old.now object }
+        requires cell { i < length (cells self.old.now object) }
+        requires value { IsElement (facts self.old.now object).kind v }
+        ensures { PerformsMovesUnless (refusal_of_places self.old (Cell object i ∷ [])) self.old
+            (after_change result self.new) (Write (Cell object i) v ∷ []) tt }
+    {
+        let value = known_word_for(&self.journal, header, object, i, v);
+        let word = known_cell_word(header, object, i);
+        self.journal.write(word, value)?;
+        Ok(())
     }
 
     /// Sets the cells of a persistent object from an index on, as one change. Elements that share a word with one of them

@@ -1,6 +1,7 @@
 //! Reading objects of the words of a journal.
-ghost use Rattle.std.specs.Prelude.{◌≡◌, ◌<◌, ◌≤◌, ◌+◌, ◌/◌, ◌==◌, if◌then◌else◌, None, IfSome, length, slice_index};
+ghost use Rattle.std.specs.Prelude.{◌≡◌, ◌<◌, ◌≤◌, ◌+◌, ◌/◌, ◌==◌, ◌↔◌, IsTrue, if◌then◌else◌, None, IfSome, length, slice_index};
 ghost use Rattle.jc_words.specs.Layout.{text_start};
+ghost use Rattle.jc_heap.specs.declared.object.Kind.TheVariants.{Instance};
 ghost use Rattle.jc_heap.specs.Object.{header_size};
 ghost use Rattle.jc_heap.specs.Image.{IsWellFormed};
 ghost use Rattle.jc_heap.specs.Heap.{heap_of, cells, facts, IsObject, next_object};
@@ -12,6 +13,9 @@ use jc_commit::Journal;
 use jc_transient::Ref;
 use jc_words::WordStore;
 use jc_words::layout::{TEXT_LENGTH, TEXT_START};
+
+// The first word of the header of a persistent instance.
+const PERSISTENT_INSTANCE: u16 = 1;
 
 // The word after a transient object's header, 0 where there is none.
 #[inline(always)]
@@ -51,6 +55,18 @@ pub fn facts_at<S: WordStore>(journal: &Journal<S>, object: Ref) -> Facts
         place,
         packed: is_packed_header(word),
     }
+}
+
+/// Whether an object is persistent and no array: its header begins with this word alone.
+#[inline(always)]
+pub fn is_persistent_instance<S: WordStore>(journal: &Journal<S>, object: Ref) -> bool
+    requires laid { IsWellFormed journal.now.plain }
+    requires small { length journal.now.plain < 65536 }
+    requires there { IsObject (heap_of journal.now.plain) object }
+    ensures { IsTrue result ↔ (((facts (heap_of journal.now.plain) object).event ≡ None)
+        × ((facts (heap_of journal.now.plain) object).kind ≡ Instance)) }
+{
+    journal.read(object.address()) == PERSISTENT_INSTANCE
 }
 
 /// The object after another one in the order of addresses, or the first one of all after null.

@@ -1,6 +1,6 @@
 //! What an object is.
 ghost use Rattle.std.specs.Prelude.{◌≡◌, false};
-ghost use Rattle.jc_heap.specs.Object.{kind_number, header_number, kind_of, event_of, is_header, is_packed_header, has_bytes, words_of_cells};
+ghost use Rattle.jc_heap.specs.Object.{kind_number, header_number, kind_of, event_of, is_header, is_packed_header, has_bytes, is_packed, words_of_cells};
 
 use jc_transient::{ClassWord, ClearEvent, OwnerWord};
 
@@ -40,6 +40,7 @@ impl Kind {
     }
 
     /// Whether the elements are bytes: those of byte and boolean arrays.
+    #[inline(always)]
     pub(crate) fn has_bytes(self) -> bool
         ensures { result ≡ has_bytes self }
     {
@@ -161,5 +162,13 @@ impl Facts {
         ensures { result ≡ self.owner }
     {
         OwnerWord(self.owner)
+    }
+
+    // Whether two elements stand in a word.
+    #[inline(always)]
+    pub(crate) fn is_packed(self) -> bool
+        ensures { result ≡ is_packed self }
+    {
+        self.kind.has_bytes() && self.packed
     }
 }
