@@ -2,7 +2,7 @@
 use Rattle.std.proofs.Common.{◌≡◌, ℕ, Some, zero, suc, pos, replicate, ◌+◌, ◌<◌, ◌≤◌, List, [], ◌∷◌, ◌++◌, set, take, drop, length, map, refl, sym, ◌∙◌}
 use Rattle.std.proofs.Common.{◌%◌, ap, arith, ext_get_or}
 use Rattle.std.specs.List.{range_with_len}
-use Rattle.std.proofs.lemmas.List.{take_more_set, length-append, length-map, map-append, take_all}
+use Rattle.std.proofs.lemmas.List.{set_split, take_more_set, length-append, length-map, map-append, take_all}
 use Rattle.std.proofs.lemmas.List.FromFn.{map-range_with_len_more, length-map-range_with_len, get_or-map-range_with_len}
 use Rattle.std.proofs.lemmas.List.Edits.{paste_all, paste-paste}
 use lib.Seq.{paste}
@@ -89,3 +89,14 @@ area_bytes_at = area_read_at (λ w. w % 256)
 pub area_words_at : (s : MemoryState) (r i n p : ℕ) (ram : RamState) (event : ClearEvent) → ram ≡ s.ram → p ≡ (facts s.heap.now r).place
     → (facts s.heap.now r).event ≡ Some event → map (λ k. word_of (cell_at ram event k)) (range_with_len (p + i) n) ≡ words_at s r i n
 area_words_at = area_read_at (λ w. w)
+
+one_cell : (d : List CellValue) (place : ℕ) (v : CellValue) → place < length d → set d place v ≡ with_cells d place (v ∷ [])
+one_cell d place v lt =
+    let next : suc place ≡ place + 1 = omega arith in
+    set_split d place v lt ∙ ap (λ k. take place d ++ (v ∷ drop k d)) next
+
+-- one cell set is a run of one
+pub one_cell_set : (ram : RamState) (event : ClearEvent) (place : ℕ) (v : CellValue) → HasSizes ram → place < area_size ram event
+    → with_area ram event (set (area ram event) place v) ≡ with_area ram event (with_cells (area ram event) place (v ∷ []))
+one_cell_set ram Reset place v sizes lt = ap {A = List CellValue} (λ l. record ram { reset_cells = l }) (one_cell ram.reset_cells place v (omega (arith, lt, sizes.reset_cells)))
+one_cell_set ram Deselect place v sizes lt = ap {A = List CellValue} (λ l. record ram { deselect_cells = l }) (one_cell ram.deselect_cells place v (omega (arith, lt, sizes.deselect_cells)))

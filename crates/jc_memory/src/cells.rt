@@ -3,10 +3,10 @@ ghost use Rattle.std.specs.Prelude.{◌≡◌, ◌<◌, false};
 ghost use Rattle.jc_heap.specs.Heap.{IsObject, facts};
 ghost use Rattle.jc_memory.specs.Programs.{Executes};
 ghost use Rattle.jc_heap.specs.Completions.{after_change};
-ghost use Rattle.jc_memory.specs.Cells.{word_of, word_at, short_at, byte_at, cell_store, MayHave};
+ghost use Rattle.jc_memory.specs.Cells.{word_of, word_at, short_at, byte_at, cell_store, IsHeaderOf, MayHave};
 
 use crate::memory::Memory;
-use jc_heap::ChangeRefusal;
+use jc_heap::{ChangeRefusal, Facts};
 use jc_transient::{CellValue, Ref};
 use jc_words::WordStore;
 
@@ -81,17 +81,36 @@ impl<S: WordStore> Memory<S> {
         ensures { Executes (cell_store self.old object i value) self.old
             (after_change result self.new) }
     {
-        let facts = self.facts(object);
-        match facts.event {
+        let header = self.facts(object);
+        self.set_known(object, header, i, value)
+    }
+
+    /// Sets a cell of an object with this header likewise. The header is not read again.
+    #[inline(always)]
+    pub fn set_known(
+        &mut self,
+        object: Ref,
+        header: Facts,
+        i: u16,
+        value: CellValue,
+    ) -> Result<(), ChangeRefusal>
+        requires up { self.old.heap.down ≡ false }
+        requires header { IsHeaderOf self.old object header }
+        requires cell { i < header.length }
+        requires value { MayHave self.old object value }
+        ensures { Executes (cell_store self.old object i value) self.old
+            (after_change result self.new) }
+    {
+        match header.event {
             None => {
-                let done = self.heap.set(object, i, word_of(value));
+                let done = self.heap.set_known(object, header, i, word_of(value));
                 if let Err(refusal) = done {
                     self.note_refused_change(refusal, 1);
                 }
                 done
             }
             Some(event) => {
-                self.ram.fill(event, facts.place + i, 1, value);
+                self.ram.set(event, header.place + i, value);
                 Ok(())
             }
         }
