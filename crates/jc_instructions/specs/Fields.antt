@@ -54,6 +54,12 @@ field_write of_type index r value p s m =
     if_some (own_field of_type index p s) (λ field. if_ok s (field_cell field p m r) (λ i. if_ok s (keepable p m value) (λ v.
     unless s (cell_refusal m r i) (Perform (cell_effect m r i v) (continue_with s)))))
 
+-- the same, where the field is known
+abbrev pub write_of_field : FieldOfClass → ℕ → CellValue → Packages → Frames → MemoryState → Program (Next Frames)
+write_of_field field r value p s m =
+    if_ok s (field_cell field p m r) (λ i. if_ok s (keepable p m value) (λ v.
+    unless s (cell_refusal m r i) (Perform (cell_effect m r i v) (continue_with s))))
+
 -- the object whose method runs: it is in local 0
 abbrev pub this_of : Frames → Option ℕ
 this_of s = option_and_then as_reference (slice_get s.current.locals 0)

@@ -7,6 +7,7 @@ ghost use Rattle.jc_instructions.specs.ArrayAccess.{element_read, element_write,
 
 use crate::array_elements::{array, element_value, with_index};
 use crate::known_values::known_value;
+use crate::open_cells::open_array;
 use jc_frames::instr::ValueType;
 use jc_frames::{Cell, Frames};
 use jc_linker::linked::Linked;
@@ -40,9 +41,9 @@ fn element_read<S: WordStore>(
 
 // Sets an element: the firewall is asked for the array and for what is stored, then the index and the value's
 // type are tested.
-#[inline(always)]
+#[inline(never)]
 #[tactic(auto, unfolding(crate::specs::ArrayAccess::element_write))]
-fn element_write<S: WordStore>(
+fn element_write_by_rules<S: WordStore>(
     of_type: ValueType,
     reference: Ref,
     index: i16,
@@ -60,8 +61,36 @@ fn element_write<S: WordStore>(
     let value = keepable(value, memory, linked)?;
     let element = with_index(facts, index)?;
     let value = element_value(element.class, value, memory, linked)?;
-    memory.set(reference, element.index, value)?;
+    memory.set_known(reference, facts, element.index, value)?;
     Ok(())
+}
+
+// The same. Where a number is stored and no rule refuses it, none is asked.
+#[inline(always)]
+#[tactic(auto, unfolding(crate::specs::ArrayAccess::element_write))]
+fn element_write<S: WordStore>(
+    of_type: ValueType,
+    reference: Ref,
+    index: i16,
+    value: CellValue,
+    frames: &Frames,
+    memory: &mut Memory<S>,
+    linked: &Linked,
+) -> Result<(), StepExit>
+    requires up { memory.old.heap.down ≡ false }
+    requires value { IsValueOf of_type value }
+    ensures { Executes (element_write of_type reference index value linked.now frames.now
+        memory.old) memory.old (after_instruction result frames.now memory.new) }
+{
+    if let CellValue::Short(_) = value {
+        if let Some(header) = open_array(of_type, reference, memory) {
+            if let Ok(element) = with_index(header, index) {
+                memory.set_known(reference, header, element.index, value)?;
+                return Ok(());
+            }
+        }
+    }
+    element_write_by_rules(of_type, reference, index, value, frames, memory, linked)
 }
 
 /// `aaload`, `baload`, `saload`: pushes the element with the index on top, of the array below it. Throws where the array is null, where the firewall
@@ -83,11 +112,10 @@ pub fn array_load<S: WordStore>(
     element_read(of_type, reference, index, frames, memory, linked)
 }
 
-/// `aastore`, `bastore`, `sastore`: pops a value into an element. It throws and faults as `array_load`; it also throws where the firewall refuses the
-/// reference that is to be stored, where the object that is to be stored has another type, and where there is no room.
+// `aastore`, `bastore` or `sastore`, by the type of elements.
 #[inline(always)]
 #[tactic(auto, unfolding(crate::specs::ArrayAccess::array_store))]
-pub fn array_store<S: WordStore>(
+fn array_store_of<S: WordStore>(
     of_type: ValueType,
     frames: &mut Frames,
     memory: &mut Memory<S>,
@@ -101,6 +129,27 @@ pub fn array_store<S: WordStore>(
     let index = frames.pop_short()?;
     let reference = frames.pop_reference()?;
     element_write(of_type, reference, index, value, frames, memory, linked)
+}
+
+/// `aastore`, `bastore`, `sastore`: pops a value into an element. It throws and faults as `array_load`; it also throws where the firewall refuses the
+/// reference that is to be stored, where the object that is to be stored has another type, and where there is no room.
+/// Each type of elements is an arm of its own, so that it is asked once.
+#[inline(always)]
+pub fn array_store<S: WordStore>(
+    of_type: ValueType,
+    frames: &mut Frames,
+    memory: &mut Memory<S>,
+    linked: &Linked,
+) -> Result<(), StepExit>
+    requires { memory.old.heap.down ≡ false }
+    ensures { Executes (array_store of_type linked.now frames.old memory.old) memory.old
+        (after_instruction result frames.new memory.new) }
+{
+    match of_type {
+        ValueType::Reference => array_store_of(ValueType::Reference, frames, memory, linked),
+        ValueType::Byte => array_store_of(ValueType::Byte, frames, memory, linked),
+        ValueType::Short => array_store_of(ValueType::Short, frames, memory, linked),
+    }
 }
 
 /// `arraylength`: pushes the number of elements of the array on top. Throws where it is null, and where the firewall refuses the access; a code fault

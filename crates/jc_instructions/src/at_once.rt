@@ -15,18 +15,16 @@ ghost use Rattle.jc_instructions.specs.ArrayAccess.{array_load};
 ghost use Rattle.jc_instructions.specs.AtOnce.{IsDoneAtOnce, IsReadOfField, IsReadOfElement};
 ghost use Rattle.std.specs.Prelude.{Ok};
 
-use crate::array_elements::{has_elements, with_index};
+use crate::array_elements::with_index;
 use crate::field_names::{FieldOfClass, field_named};
 use crate::known_values::known_value;
+use crate::open_cells::{open_array, own_header};
 use jc_frames::instr::ValueType;
 use jc_frames::{Cell, Frames};
-use jc_heap::Facts;
 use jc_linker::linked::Linked;
 use jc_memory::Memory;
-use jc_transient::{ClearEvent, Ref};
+use jc_transient::Ref;
 use jc_words::WordStore;
-use jc_world::contexts::is_own;
-use jc_world::objects::is_instance;
 
 /// A reference names an object that is known at once. Its header is read after this, so that what is not asked of it is not decoded.
 #[inline(always)]
@@ -39,10 +37,8 @@ pub(crate) fn names_object<S: WordStore>(reference: Ref, memory: &Memory<S>) -> 
     !reference.is_null() && memory.knows(reference)
 }
 
-// The value of a field in the object that a reference names, as it comes on the stack, where the object is persistent, of the very class of the
-// field, and belongs to the owner for whom code runs.
+// The value of a field in the object that a reference names, as it comes on the stack, where the object is such a one.
 #[inline(always)]
-#[tactic(auto, unfolding(crate::specs::Fields::field_cell), using(jc_world::proofs::Below::below_same))]
 fn own_field_value<S: WordStore>(
     of_type: ValueType,
     field: FieldOfClass,
@@ -55,18 +51,9 @@ fn own_field_value<S: WordStore>(
     ensures value { IfSome result (λ value. value
         ≡ value_at of_type memory.now reference field.cell) }
 {
-    if !names_object(reference, memory) {
-        return None;
-    }
-    let facts = memory.facts(reference);
-    if facts.event.is_some() || !is_instance(facts.kind) || facts.class() != field.class {
-        return None;
-    }
-    if field.cell >= u32::from(facts.length) || !is_own(facts, memory) {
-        return None;
-    }
-    let index = field.cell as u16;
-    Some(known_value(of_type, facts, memory, reference, index))
+    let cell = field.cell;
+    let header = own_header(&field, reference, memory)?;
+    Some(known_value(of_type, header, memory, reference, cell as u16))
 }
 
 // The same of the field that an entry of the pool of the package that runs names.
@@ -190,20 +177,6 @@ pub fn getfield_this_at_once<S: WordStore>(
     }
 }
 
-// An array with this header is one of the runtime environment's that no deselection clears: all reach its elements.
-#[inline(always)]
-#[tactic(auto, using(jc_world::proofs::Free::global_free), unfolding(jc_world::specs::Contexts::situation_of, jc_world::specs::Contexts::subject_of))]
-const fn is_global(facts: Facts) -> bool
-    ensures { (p : Packages) (m : MemoryState) → result ≡ true → is_instance facts.kind ≡ false
-        → firewall_decision ArrayElement p m facts ≡ Allow }
-{
-    let is_cleared = match facts.event {
-        Some(ClearEvent::Deselect) => true,
-        _ => false,
-    };
-    facts.owner().0 == 0 && !is_cleared
-}
-
 // The element with an index of the array that a reference names, as it comes on the stack, where the array belongs to the owner for whom code runs, or is
 // one of the runtime environment's.
 #[inline(always)]
@@ -218,16 +191,7 @@ fn known_element<S: WordStore>(
     ensures { IfSome result (λ value. (p : Packages)
         → IsReadOfElement of_type reference index p memory.now value) }
 {
-    if !names_object(reference, memory) {
-        return None;
-    }
-    let header = memory.facts(reference);
-    if !has_elements(of_type, header.kind) {
-        return None;
-    }
-    if !is_own(header, memory) && !is_global(header) {
-        return None;
-    }
+    let header = open_array(of_type, reference, memory)?;
     let element = with_index(header, index).ok()?;
     Some(known_value(of_type, header, memory, reference, element.index))
 }

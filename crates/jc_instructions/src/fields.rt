@@ -7,10 +7,11 @@ ghost use Rattle.jc_world.specs.Contexts.{firewall_check};
 ghost use Rattle.jc_memory.specs.Cells.{IsHeaderOf};
 ghost use Rattle.jc_memory.specs.Programs.{Executes};
 ghost use Rattle.jc_world.specs.Instructions.{after_instruction};
-ghost use Rattle.jc_instructions.specs.Fields.{field_cell, field_read, field_write, getfield, putfield, getfield_this, putfield_this};
+ghost use Rattle.jc_instructions.specs.Fields.{field_cell, field_read, field_write, write_of_field, getfield, putfield, getfield_this, putfield_this};
 
 use crate::field_names::{FieldOfClass, field_named};
 use crate::known_values::known_value;
+use crate::open_cells::{is_kept_at_once, own_header};
 use jc_firewall::access::Access;
 use jc_frames::instr::ValueType;
 use jc_frames::{CodeFault, FrameExit, Frames, Outcome};
@@ -108,7 +109,28 @@ fn field_read<S: WordStore>(
     Ok(())
 }
 
-// The field of this object is set.
+// The field of this object is set, as the rules on it say.
+#[inline(never)]
+#[tactic(auto, unfolding(crate::specs::Fields::field_write))]
+fn field_write_by_rules<S: WordStore>(
+    field: FieldOfClass,
+    reference: Ref,
+    value: CellValue,
+    frames: &Frames,
+    memory: &mut Memory<S>,
+    linked: &Linked,
+) -> Result<(), StepExit>
+    requires up { memory.old.heap.down ≡ false }
+    ensures { Executes (write_of_field field reference value linked.now frames.now memory.old)
+        memory.old (after_instruction result frames.now memory.new) }
+{
+    let cell = field_cell(field, reference, memory, linked)?;
+    let value = keepable(value, memory, linked)?;
+    memory.set_known(reference, cell.header, cell.index, value)?;
+    Ok(())
+}
+
+// The field of this object is set. Where no rule refuses it, none is asked.
 #[inline(always)]
 #[tactic(auto, unfolding(crate::specs::Fields::field_write))]
 fn field_write<S: WordStore>(
@@ -126,10 +148,14 @@ fn field_write<S: WordStore>(
 {
     let package_number = frames.origin().package_number;
     let field = field_named(of_type, linked, package_number, index).ok_or(CodeFault)?;
-    let cell = field_cell(field, reference, memory, linked)?;
-    let value = keepable(value, memory, linked)?;
-    memory.set(reference, cell.index, value)?;
-    Ok(())
+    let cell = field.cell;
+    if is_kept_at_once(&value, memory) {
+        if let Some(header) = own_header(&field, reference, memory) {
+            memory.set_known(reference, header, cell as u16, value)?;
+            return Ok(());
+        }
+    }
+    field_write_by_rules(field, reference, value, frames, memory, linked)
 }
 
 /// `getfield_a`, `getfield_b`, `getfield_s`, `getfield_a_w`, `getfield_b_w`, `getfield_s_w`: pushes a field of
@@ -151,11 +177,10 @@ pub(crate) fn getfield<S: WordStore>(
     field_read(of_type, index, reference, frames, memory, linked)
 }
 
-/// `putfield_a`, `putfield_b`, `putfield_s`, `putfield_a_w`, `putfield_b_w`, `putfield_s_w`: pops a value into
-/// a field of the object on the stack.
+// `putfield` of a field of this type.
 #[inline(always)]
 #[tactic(auto, unfolding(crate::specs::Fields::putfield))]
-pub(crate) fn putfield<S: WordStore>(
+fn putfield_of<S: WordStore>(
     of_type: ValueType,
     index: u16,
     frames: &mut Frames,
@@ -169,6 +194,27 @@ pub(crate) fn putfield<S: WordStore>(
     let value = pop_value(of_type, frames)?;
     let reference = frames.pop_reference()?;
     field_write(of_type, index, reference, value, frames, memory, linked)
+}
+
+/// `putfield_a`, `putfield_b`, `putfield_s`, `putfield_a_w`, `putfield_b_w`, `putfield_s_w`: pops a value into
+/// a field of the object on the stack. Each type is an arm of its own, so that it is asked once.
+#[inline(always)]
+pub(crate) fn putfield<S: WordStore>(
+    of_type: ValueType,
+    index: u16,
+    frames: &mut Frames,
+    memory: &mut Memory<S>,
+    linked: &Linked,
+) -> Result<(), StepExit>
+    requires up { memory.old.heap.down ≡ false }
+    ensures { Executes (putfield of_type index linked.now frames.old memory.old) memory.old
+        (after_instruction result frames.new memory.new) }
+{
+    match of_type {
+        ValueType::Reference => putfield_of(ValueType::Reference, index, frames, memory, linked),
+        ValueType::Byte => putfield_of(ValueType::Byte, index, frames, memory, linked),
+        ValueType::Short => putfield_of(ValueType::Short, index, frames, memory, linked),
+    }
 }
 
 /// `getfield_a_this`, `getfield_b_this`, `getfield_s_this`: pushes a field of the object whose method runs,

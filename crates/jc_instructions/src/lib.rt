@@ -18,6 +18,7 @@ pub mod method_return;
 pub mod notes;
 mod object_creation;
 mod object_types;
+mod open_cells;
 pub mod parameters;
 pub mod server_call;
 mod static_fields;
