@@ -10,6 +10,7 @@ use crate::target::Target;
 
 impl Linked {
     /// What an entry of a package's constant pool resolves to; none only past the pool's end.
+    #[inline(always)]
     #[tactic(auto, unfolding(crate::specs::Lookups::target_at))]
     pub fn target_at(&self, package_number: u8, index: u16) -> Option<&Target>
         ensures { option_copied result ≡ target_at self.entry.now package_number index }
