@@ -1,19 +1,13 @@
 //! Reads that are carried out at once, since no rule refuses them and nothing is thrown: of fields of own persistent objects, and of elements of
 //! own arrays and of the runtime environment's. What is not read so is read in the usual way, with the same answer.
-ghost use Rattle.std.specs.Prelude.{◌≡◌, ◌<◌, false, true, Some, IfSome};
+ghost use Rattle.std.specs.Prelude.{◌≡◌, false, true, Ok, IfSome};
 ghost use Rattle.jc_heap.specs.Heap.{IsObject, facts};
-ghost use Rattle.jc_memory.specs.Cells.{IsHeaderOf};
-ghost use Rattle.jc_memory.specs.State.{MemoryState};
 ghost use Rattle.jc_linker.specs.Values.{Packages};
-ghost use Rattle.jc_firewall.specs.declared.access.Access.TheVariants.{ArrayElement};
-ghost use Rattle.jc_firewall.specs.declared.decide.Decision.TheVariants.{Allow};
-ghost use Rattle.jc_world.specs.Contexts.{firewall_decision};
-ghost use Rattle.jc_world.specs.Objects.{is_instance, object_at};
+ghost use Rattle.jc_world.specs.Objects.{object_at};
 ghost use Rattle.jc_world.specs.Values.{value_at};
 ghost use Rattle.jc_instructions.specs.Fields.{field_cell, getfield, getfield_this};
 ghost use Rattle.jc_instructions.specs.ArrayAccess.{array_load};
 ghost use Rattle.jc_instructions.specs.AtOnce.{IsDoneAtOnce, IsReadOfField, IsReadOfElement};
-ghost use Rattle.std.specs.Prelude.{Ok};
 
 use crate::array_elements::with_index;
 use crate::field_names::{FieldOfClass, field_named};
