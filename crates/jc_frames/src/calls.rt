@@ -50,9 +50,8 @@ impl Frames {
         if ceiling > MOST_CELLS {
             return Err(CodeFault);
         }
-        // Before the locals: what is saved is copied while nothing else lies in between.
         save(&self.current, entry.resume, &mut self.saved);
-        push_zeros(&mut self.cells, entry.locals);
+        // Before the locals, so that nothing is kept while they are pushed.
         self.current = Region {
             base,
             bottom,
@@ -60,6 +59,7 @@ impl Frames {
             place: entry.place,
             origin: entry.origin,
         };
+        push_zeros(&mut self.cells, entry.locals);
         Ok(())
     }
 

@@ -27,9 +27,8 @@ pub fn u2_at(code: &[u8], at: usize) -> Option<u16>
     ensures value { result ≡ u2 code.now at }
     ensures within { IsSome result → at + 1 < length code.now }
 {
-    let high = *code.get(at)?;
-    let low = *code.get(at + 1)?;
-    Some(u16::from_be_bytes([high, low]))
+    let low = *code.get(at.checked_add(1)?)?; // the last first, so that the other needs no test
+    Some(u16::from_be_bytes([code[at], low]))
 }
 
 /// The signed number of the two bytes from `at` on, the high one first, if the code reaches so far.
@@ -38,7 +37,6 @@ pub fn s2_at(code: &[u8], at: usize) -> Option<i16>
     ensures value { result ≡ s2 code.now at }
     ensures within { IsSome result → at + 1 < length code.now }
 {
-    let high = *code.get(at)?;
-    let low = *code.get(at + 1)?;
-    Some(i16::from_be_bytes([high, low]))
+    let low = *code.get(at.checked_add(1)?)?; // the last first, so that the other needs no test
+    Some(i16::from_be_bytes([code[at], low]))
 }

@@ -85,11 +85,8 @@ impl Linked {
     pub(crate) fn package(&self, number: u8) -> Option<&LinkedPackage>
         ensures { option_copied result ≡ package_in self.now number }
     {
-        if number == 0 {
-            None
-        } else {
-            self.loaded.get(number as usize - 1)
-        }
+        // Of number 0 this is a place that no package has.
+        self.loaded.get((number as usize).wrapping_sub(1))
     }
 
     // The class of a loaded package with this word.
