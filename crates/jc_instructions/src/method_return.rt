@@ -44,10 +44,11 @@ pub fn return_to_caller<S: WordStore>(
 {
     match how {
         ReturnOp::Return => hand_over(None, frames, memory),
-        ReturnOp::Sreturn => {
-            let value = frames.pop_short()?;
-            hand_over(Some(Cell::Short(value)), frames, memory)
-        }
+        // The short is not taken off first, since all cells of the frame go.
+        ReturnOp::Sreturn => match frames.peek(0) {
+            Some(Cell::Short(value)) => hand_over(Some(Cell::Short(value)), frames, memory),
+            _ => Err(StepExit::End(Outcome::Fault)),
+        },
         ReturnOp::Areturn => {
             let value = frames.pop_reference()?;
             hand_over(Some(Cell::Reference(value)), frames, memory)
