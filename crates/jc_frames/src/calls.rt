@@ -51,14 +51,13 @@ impl Frames {
             return Err(CodeFault);
         }
         save(&self.current, entry.resume, &mut self.saved);
-        // Before the locals, so that nothing is kept while they are pushed.
-        self.current = Region {
-            base,
-            bottom,
-            ceiling,
-            place: entry.place,
-            origin: entry.origin,
-        };
+        // Before the locals, so that nothing is kept while they are pushed, and field by field, so that nothing is packed.
+        self.current.base = base;
+        self.current.bottom = bottom;
+        self.current.ceiling = ceiling;
+        self.current.place = entry.place;
+        self.current.origin.package_number = entry.origin.package_number;
+        self.current.origin.method = entry.origin.method;
         push_zeros(&mut self.cells, entry.locals);
         Ok(())
     }
