@@ -13,6 +13,7 @@ use Rattle.jc_frames.specs.declared.cell.Cell.TheVariants.{Reference}
 use Rattle.jc_frames.specs.declared.method.CallKind.{CallKind}
 use Rattle.jc_frames.specs.declared.method.CallKind.TheVariants.{Instruction, ShareableRequest}
 use Rattle.jc_frames.specs.declared.exceptions.Exception.{Exception}
+use Rattle.jc_frames.specs.declared.exceptions.Exception.TheVariants.{Further}
 use Rattle.jc_frames.specs.Exceptions.{class_of_exception, reason_of}
 use Rattle.jc_environment.specs.Objects.{own_place}
 use Rattle.jc_frames.specs.declared.outcome.Outcome.TheVariants.{Fault, Thrown}
@@ -70,6 +71,11 @@ athrow place p s m =
     object_unwind top.0 place p (with_stack s top.1) m))))
 
 -- ---- exceptions of the runtime environment
+
+-- its class has a variant of its own
+abbrev pub HasVariant : Exception → Type 0
+HasVariant (Further class reason) = ⊥
+HasVariant other = Unit {0}
 
 -- a transient instance with a cell, in which the reason stands
 abbrev pub has_reason_cell : Facts → Bool

@@ -2,11 +2,12 @@
 ghost use Rattle.std.specs.Prelude.{◌≡◌, false};
 ghost use Rattle.jc_environment.specs.Objects.{own_place};
 ghost use Rattle.jc_frames.specs.Exceptions.{class_of_exception};
+ghost use Rattle.jc_platform.specs.Tokens.{Tokens};
 ghost use Rattle.jc_frames.specs.Frames.{unless_fault};
 ghost use Rattle.jc_memory.specs.Programs.{Executes};
 ghost use Rattle.jc_world.specs.Instructions.{after_instruction};
 ghost use Rattle.jc_instructions.specs.Throw.{has_reason_cell, handler_entry, athrow, callers_unwind, exception_throw, object_unwind, unwind};
-ghost use Rattle.jc_instructions.specs.Throw.{with_reason};
+ghost use Rattle.jc_instructions.specs.Throw.{HasVariant, with_reason};
 
 use crate::catch::{HandlerResult, catch_in_method};
 use crate::notes::note_exception;
@@ -172,10 +173,13 @@ fn throw_with<S: WordStore>(
     throw_object(thrown, place, frames, memory, linked)
 }
 
-// The number of the runtime environment's own instance of an exception's class, among the objects with which the heap begins.
+// The number of the runtime environment's own instance of the class of an exception that has a variant, among the objects with which the heap
+// begins: it is the variant's number too, so that no arm has code.
 #[tactic(auto, unfolding(jc_environment::specs::Objects::own_place, jc_environment::specs::Objects::fixed_objects, jc_environment::specs::Objects::first_objects,))]
-fn own_number(exception: Exception, table: &Table) -> usize
-    ensures { result ≡ own_place table.now (class_of_exception exception) }
+#[inline(always)]
+fn own_number_of_variant(exception: Exception) -> usize
+    requires variant { HasVariant exception }
+    ensures { (t : Tokens) → result ≡ own_place t (class_of_exception exception) }
 {
     match exception {
         Exception::ArithmeticException => 0,
@@ -193,8 +197,19 @@ fn own_number(exception: Exception, table: &Table) -> usize
         Exception::TransactionException(_) => 12,
         Exception::APDUException(_) => 13,
         Exception::UserException(_) => 14,
-        Exception::Further { class, .. } => own_place(table, class),
+        Exception::Further { .. } => unreachable!(),
     }
+}
+
+// The same of any exception.
+#[inline(always)]
+fn own_number(exception: Exception, table: &Table) -> usize
+    ensures { result ≡ own_place table.now (class_of_exception exception) }
+{
+    if let Exception::Further { class, .. } = exception {
+        return own_place(table, class);
+    }
+    own_number_of_variant(exception)
 }
 
 /// The runtime environment throws its own instance of an exception's class, with its reason, by the instruction at a
