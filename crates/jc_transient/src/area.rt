@@ -132,6 +132,7 @@ impl Area {
     }
 
     /// Sets `count` cells from a place on to zero. Where the last of them are known to be zero, only those before are written.
+    #[inline(always)]
     pub(crate) fn fill_zeros(&mut self, place: u16, count: u16)
         requires { place + count ≤ length self.old }
         ensures { self.new ≡ with_cells self.old place (replicate count (CellValue.Short (pos 0))) }
@@ -150,6 +151,7 @@ impl Area {
     }
 
     /// Puts bytes, each as a number, into the cells from a place on.
+    #[inline(always)]
     pub(crate) fn put_bytes(&mut self, place: usize, bytes: &[u8])
         requires { place + length bytes.now ≤ length self.old }
         ensures { self.new ≡ with_cells self.old place (map number_of bytes.now) }

@@ -115,6 +115,7 @@ impl Ram {
     }
 
     /// Sets `count` cells from a place on to zero.
+    #[inline(always)]
     pub fn fill_zeros(&mut self, event: ClearEvent, place: u16, count: u16)
         requires { place + count ≤ area_size self.old event }
         ensures done { self.new ≡ with_area self.old event
@@ -129,6 +130,7 @@ impl Ram {
     }
 
     /// Puts bytes, each as a number, into the cells from a place on.
+    #[inline(always)]
     pub fn put_bytes(&mut self, event: ClearEvent, place: u16, bytes: &[u8])
         requires { place + length bytes.now ≤ area_size self.old event }
         ensures done { self.new ≡ with_area self.old event
