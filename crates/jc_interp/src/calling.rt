@@ -1,18 +1,20 @@
 //! Calls: methods of the platform are carried out at once, those in bytecode get a frame.
-ghost use Rattle.std.specs.Prelude.{◌≡◌, false, IfSome, Some, Ok};
-ghost use Rattle.jc_frames.specs.declared.instr.InvokeOp.TheVariants.{Interface, Special, Static, Virtual};
+ghost use Rattle.std.specs.Prelude.{◌≡◌, ◌<◌, ◌^◌, false, length, IfSome, Some, Ok};
+ghost use Rattle.jc_frames.specs.declared.instr.InvokeOp.TheVariants.{Special, Static, Virtual};
 ghost use Rattle.jc_frames.specs.declared.method.CallKind.TheVariants.{Instruction};
 ghost use Rattle.jc_linker.specs.declared.target.Method.TheVariants.{Code, Native};
 ghost use Rattle.jc_linker.specs.Lookups.{target_at};
 ghost use Rattle.jc_memory.specs.Programs.{Executes};
 ghost use Rattle.jc_world.specs.Instructions.{after_instruction};
 ghost use Rattle.jc_instructions.specs.Invoke.{call_of_code, header_of, method_selection};
+ghost use Rattle.jc_instructions.specs.MethodComponent.{method_component_of};
 ghost use Rattle.jc_platform.specs.Signatures.{argument_cells};
 ghost use Rattle.jc_interp.specs.Calling.{after_native_return, invoke_instruction, invoke_selected, native_invoke, static_invoke};
+ghost use Rattle.jc_interp.specs.RunningCode.{IsRunningCode};
 
 use crate::natives::{call_native, call_other};
 use crate::own_calls::{
-    select_own_code, select_own_implementation, select_own_special, short_header_at,
+    component_of, select_own_code, select_own_implementation, select_own_special, short_header_at,
 };
 use jc_frames::instr::InvokeOp;
 use jc_frames::{CallKind, Frames, Outcome, header_at};
@@ -389,14 +391,18 @@ fn invoke_static_code<S: WordStore>(
     package_number: u8,
     offset: u16,
     place: u16,
+    code: &[u8],
     frames: &mut Frames,
     memory: &mut Memory<S>,
     linked: &Linked,
 ) -> Result<(), StepExit>
+    requires short { length code.now < 2 ^ 16 }
+    requires runs { code.now
+        ≡ method_component_of linked.now frames.old.current.origin.package_number }
     ensures { Executes (static_invoke (Code package_number offset) place linked.now frames.old
         memory.old) memory.old (after_instruction result frames.new memory.new) }
 {
-    let component = method_component_of(package_number, linked);
+    let component = component_of(package_number, code, frames, linked);
     let Some(header) = short_header_at(component, offset) else {
         return call_static_any(package_number, offset, place, frames, memory, linked);
     };
@@ -452,16 +458,19 @@ fn call_static_native<S: WordStore>(
 }
 
 // A static call by the instruction at a place.
-#[tactic(auto, unfolding(crate::specs::Calling::invoke_instruction, jc_instructions::specs::Invoke::method_selection))]
+#[tactic(auto, using(crate::proofs::RunningCode::has_pool), unfolding(crate::specs::Calling::invoke_instruction, jc_instructions::specs::Invoke::method_selection))]
 #[inline(always)]
 fn invoke_static<S: WordStore>(
     index: u16,
     place: u16,
+    code: &[u8],
     frames: &mut Frames,
     memory: &mut Memory<S>,
     linked: &Linked,
 ) -> Result<(), StepExit>
     requires up { memory.old.heap.down ≡ false }
+    requires short { length code.now < 2 ^ 16 }
+    requires runs { IsRunningCode code.now linked.now frames.old }
     ensures { Executes (invoke_instruction (Static index) place linked.now frames.old memory.old)
         memory.old (after_instruction result frames.new memory.new) }
 {
@@ -474,7 +483,15 @@ fn invoke_static<S: WordStore>(
                     offset,
                 },
             },
-        ) => invoke_static_code(*package_number, *offset, place, frames, memory, linked),
+        ) => invoke_static_code(
+            *package_number,
+            *offset,
+            place,
+            code,
+            frames,
+            memory,
+            linked,
+        ),
         Some(
             Target::StaticMethod {
                 class: _,
@@ -541,11 +558,15 @@ fn invoke_virtual_code<S: WordStore>(
     entry: &Target,
     index: u16,
     place: u16,
+    code: &[u8],
     frames: &mut Frames,
     memory: &mut Memory<S>,
     linked: &Linked,
 ) -> Result<(), StepExit>
     requires up { memory.old.heap.down ≡ false }
+    requires short { length code.now < 2 ^ 16 }
+    requires runs { code.now
+        ≡ method_component_of linked.now frames.old.current.origin.package_number }
     requires entry { Some entry.now ≡ target_at linked.now frames.old.current.origin.package_number
         index }
     ensures { Executes (invoke_instruction (Virtual index) place linked.now frames.old memory.old)
@@ -560,7 +581,15 @@ fn invoke_virtual_code<S: WordStore>(
         },
     } = entry
     {
-        let chosen = select_own_code(*class, *package_number, *offset, frames, memory, linked);
+        let chosen = select_own_code(
+            *class,
+            *package_number,
+            *offset,
+            code,
+            frames,
+            memory,
+            linked,
+        );
         if let Some(call) = chosen {
             return enter(
                 Some(call.header),
@@ -575,16 +604,19 @@ fn invoke_virtual_code<S: WordStore>(
 }
 
 // A virtual call by the instruction at a place.
-#[tactic(auto, unfolding(crate::specs::Calling::invoke_instruction, jc_instructions::specs::Invoke::method_selection))]
+#[tactic(auto, using(crate::proofs::RunningCode::has_pool), unfolding(crate::specs::Calling::invoke_instruction, jc_instructions::specs::Invoke::method_selection))]
 #[inline(always)]
 fn invoke_virtual<S: WordStore>(
     index: u16,
     place: u16,
+    code: &[u8],
     frames: &mut Frames,
     memory: &mut Memory<S>,
     linked: &Linked,
 ) -> Result<(), StepExit>
     requires up { memory.old.heap.down ≡ false }
+    requires short { length code.now < 2 ^ 16 }
+    requires runs { IsRunningCode code.now linked.now frames.old }
     ensures { Executes (invoke_instruction (Virtual index) place linked.now frames.old memory.old)
         memory.old (after_instruction result frames.new memory.new) }
 {
@@ -596,7 +628,7 @@ fn invoke_virtual<S: WordStore>(
             method: Method::Native(_),
             ..
         } => invoke_of_platform(entry, index, place, frames, memory, linked),
-        _ => invoke_virtual_code(entry, index, place, frames, memory, linked),
+        _ => invoke_virtual_code(entry, index, place, code, frames, memory, linked),
     }
 }
 
@@ -657,25 +689,34 @@ fn invoke_special<S: WordStore>(
 }
 
 // A call of an interface's method. On an own instance nothing else is asked.
-#[tactic(auto, unfolding(crate::specs::Calling::invoke_instruction, jc_instructions::specs::Invoke::method_selection, jc_instructions::specs::Invoke::header_of, jc_instructions::specs::Enter::method_entry))]
+#[tactic(auto, using(crate::proofs::RunningCode::has_pool), unfolding(crate::specs::Calling::invoke_instruction, jc_instructions::specs::Invoke::method_selection, jc_instructions::specs::Invoke::header_of, jc_instructions::specs::Enter::method_entry))]
 #[inline(always)]
-fn invoke_interface_code<S: WordStore>(
-    arguments: u8,
-    index: u16,
-    token: u8,
+fn invoke_interface<S: WordStore>(
+    invoke: InvokeOp,
     place: u16,
+    code: &[u8],
     frames: &mut Frames,
     memory: &mut Memory<S>,
     linked: &Linked,
 ) -> Result<(), StepExit>
     requires up { memory.old.heap.down ≡ false }
-    ensures { Executes (invoke_instruction (Interface arguments index token) place linked.now
-        frames.old memory.old) memory.old (after_instruction result frames.new memory.new) }
+    requires short { length code.now < 2 ^ 16 }
+    requires runs { IsRunningCode code.now linked.now frames.old }
+    ensures { Executes (invoke_instruction invoke place linked.now frames.old memory.old) memory.old
+        (after_instruction result frames.new memory.new) }
 {
+    let InvokeOp::Interface {
+        arguments,
+        index,
+        token,
+    } = invoke
+    else {
+        return invoke_other(invoke, place, frames, memory, linked);
+    };
     let interface = linked.target_at(frames.origin().package_number, index);
     if let Some(Target::Class(interface)) = interface {
         let chosen = select_own_implementation(
-            *interface, arguments, token, frames, memory, linked,
+            *interface, arguments, token, code, frames, memory, linked,
         );
         if let Some(call) = chosen {
             return enter(
@@ -687,35 +728,7 @@ fn invoke_interface_code<S: WordStore>(
             );
         }
     }
-    invoke_other(
-        InvokeOp::Interface {
-            arguments,
-            index,
-            token,
-        },
-        place,
-        frames,
-        memory,
-        linked,
-    )
-}
-
-// A call of an interface's method.
-#[inline(always)]
-fn invoke_interface<S: WordStore>(
-    arguments: u8,
-    index: u16,
-    token: u8,
-    place: u16,
-    frames: &mut Frames,
-    memory: &mut Memory<S>,
-    linked: &Linked,
-) -> Result<(), StepExit>
-    requires up { memory.old.heap.down ≡ false }
-    ensures { Executes (invoke_instruction (Interface arguments index token) place linked.now
-        frames.old memory.old) memory.old (after_instruction result frames.new memory.new) }
-{
-    invoke_interface_code(arguments, index, token, place, frames, memory, linked)
+    invoke_other(invoke, place, frames, memory, linked)
 }
 
 /// A call by the instruction at a place. Static calls of methods in bytecode stay in line, and so do virtual calls and calls of interfaces' methods
@@ -724,22 +737,21 @@ fn invoke_interface<S: WordStore>(
 pub(crate) fn invoke_instruction<S: WordStore>(
     invoke: InvokeOp,
     place: u16,
+    code: &[u8],
     frames: &mut Frames,
     memory: &mut Memory<S>,
     linked: &Linked,
 ) -> Result<(), StepExit>
     requires up { memory.old.heap.down ≡ false }
+    requires short { length code.now < 2 ^ 16 }
+    requires runs { IsRunningCode code.now linked.now frames.old }
     ensures { Executes (invoke_instruction invoke place linked.now frames.old memory.old) memory.old
         (after_instruction result frames.new memory.new) }
 {
     match invoke {
-        InvokeOp::Static(index) => invoke_static(index, place, frames, memory, linked),
-        InvokeOp::Virtual(index) => invoke_virtual(index, place, frames, memory, linked),
+        InvokeOp::Static(index) => invoke_static(index, place, code, frames, memory, linked),
+        InvokeOp::Virtual(index) => invoke_virtual(index, place, code, frames, memory, linked),
         InvokeOp::Special(index) => invoke_special(index, place, frames, memory, linked),
-        InvokeOp::Interface {
-            arguments,
-            index,
-            token,
-        } => invoke_interface(arguments, index, token, place, frames, memory, linked),
+        InvokeOp::Interface { .. } => invoke_interface(invoke, place, code, frames, memory, linked),
     }
 }

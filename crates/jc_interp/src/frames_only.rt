@@ -193,6 +193,8 @@ pub(crate) fn run_in_frames<C, S: WordStore>(
         → run_of attack (budget + more) lent linked.now frames.old memory.now
         ≡ run_behind result attack more lent linked.now frames.new memory.now }
     ensures fewer { IfSome result (λ r. r.0 < budget) }
+    ensures origin { IfSome result (λ r. WhereNeeded r.1.why
+        (frames.new.current.origin ≡ frames.old.current.origin)) }
 {
     let mut left = budget;
     while left > 0 {

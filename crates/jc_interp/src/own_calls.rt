@@ -48,6 +48,27 @@ pub(crate) fn short_header_at(component: &[u8], place: u16) -> Option<Header>
     })
 }
 
+/// The Method component of a package, where this is the code that runs: that of the same package is not looked up.
+#[inline(always)]
+pub(crate) fn component_of<'a>(
+    package_number: u8,
+    code: &'a [u8],
+    frames: &Frames,
+    linked: &'a Linked,
+) -> &'a [u8]
+    requires short { length code.now < 2 ^ 16 }
+    requires runs { code.now
+        ≡ method_component_of linked.now frames.now.current.origin.package_number }
+    ensures text { result.now ≡ method_component_of linked.entry.now package_number }
+    ensures short { length result.now < 2 ^ 16 }
+{
+    if package_number == frames.origin().package_number {
+        code
+    } else {
+        method_component_of(package_number, linked)
+    }
+}
+
 // The header of the receiver of a method with this many arguments, where it is an instance that belongs to the owner for whom code runs.
 #[inline(always)]
 #[tactic(auto, unfolding(jc_instructions::specs::Invoke::receiver_of, jc_world::specs::Objects::object_at))]
@@ -111,18 +132,22 @@ pub(crate) fn select_own_code<S: WordStore>(
     class: ClassWord,
     package_number: u8,
     offset: u16,
+    code: &[u8],
     frames: &Frames,
     memory: &Memory<S>,
     linked: &Linked,
 ) -> Option<CodeCall>
     requires up { memory.now.heap.down ≡ false }
+    requires short { length code.now < 2 ^ 16 }
+    requires runs { code.now
+        ≡ method_component_of linked.now frames.now.current.origin.package_number }
     ensures chosen { IfSome result (λ r. (token : VirtualToken) → invokevirtual class token
         (Code package_number offset) linked.now frames.now.current.stack memory.now
         ≡ Ok (call_of_code r.callee)) }
     ensures header { IfSome result (λ r. header_of linked.now
         (Code r.callee.package_number r.callee.offset) ≡ Some r.header) }
 {
-    let component = method_component_of(package_number, linked);
+    let component = component_of(package_number, code, frames, linked);
     let header = header_of_virtual(class, offset, component, frames, memory)?;
     Some(CodeCall {
         callee: Callee {
@@ -177,11 +202,15 @@ pub(crate) fn select_own_implementation<S: WordStore>(
     interface: ClassWord,
     arguments: u8,
     token: u8,
+    code: &[u8],
     frames: &Frames,
     memory: &Memory<S>,
     linked: &Linked,
 ) -> Option<CodeCall>
     requires up { memory.now.heap.down ≡ false }
+    requires short { length code.now < 2 ^ 16 }
+    requires runs { code.now
+        ≡ method_component_of linked.now frames.now.current.origin.package_number }
     ensures chosen { IfSome result (λ r. invokeinterface interface arguments token linked.now
         frames.now.current.stack memory.now ≡ Ok (call_of_code r.callee)) }
     ensures header { IfSome result (λ r. header_of linked.now
@@ -196,7 +225,8 @@ pub(crate) fn select_own_implementation<S: WordStore>(
     else {
         return None;
     };
-    let header = short_header_at(method_component_of(package_number, linked), offset)?;
+    let component = component_of(package_number, code, frames, linked);
+    let header = short_header_at(component, offset)?;
     Some(CodeCall {
         callee: Callee {
             package_number,

@@ -39,7 +39,7 @@ fn run_part<S: WordStore>(
     let mut code = code_of(lent, number, linked);
     while let Some((rest, pause)) = run_in_frames::<S, S>(code, left, frames, memory, linked) {
         left = rest;
-        match finish(&pause, frames, memory, linked) {
+        match finish(&pause, code, frames, memory, linked) {
             Ok(()) => {}
             Err(StepExit::End(outcome)) => {
                 let left = left + later;

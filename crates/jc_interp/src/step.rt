@@ -10,8 +10,9 @@ ghost use Rattle.jc_memory.specs.Programs.{Executes, bind};
 ghost use Rattle.jc_world.specs.Instructions.{after_instruction};
 ghost use Rattle.jc_interp.specs.declared.frames_only.FramesExit.TheVariants.{Exit};
 ghost use Rattle.jc_interp.specs.Calling.{invoke_instruction};
+ghost use Rattle.jc_interp.specs.RunningCode.{IsRunningCode};
 ghost use Rattle.jc_interp.specs.Step.{code_of, if_had, object_instruction, throw_from};
-ghost use Rattle.jc_interp.specs.PausedSteps.{EndsStep, IsOther, step_rest, memory_instruction, paused_rest};
+ghost use Rattle.jc_interp.specs.PausedSteps.{EndsStep, IsOther, WhereNeeded, step_rest, memory_instruction, paused_rest};
 
 use crate::calling::invoke_instruction;
 use crate::frames_only::{FramesExit, PausedStep};
@@ -189,7 +190,7 @@ fn execute<S: WordStore>(
 }
 
 // Throws what an instruction at a place throws; any other exit stays. It is one call for all exits, out of line, so that an instruction that
-// goes on keeps no room for one.
+// goes on keeps no room for one. Where code goes on, it leaves by a way of its own, which hands on nothing of an exit.
 #[inline(never)]
 fn throw_at<S: WordStore>(
     exit: StepExit,
@@ -205,7 +206,11 @@ fn throw_at<S: WordStore>(
     match exit {
         StepExit::Throw(exception) => {
             frames.clear_stack();
-            throw(exception, place, frames, memory, linked)
+            let ended = throw(exception, place, frames, memory, linked);
+            if ended.is_err() {
+                return ended;
+            }
+            Ok(())
         }
         other => Err(other),
     }
@@ -234,16 +239,19 @@ fn throw_exit<S: WordStore>(
 fn finish_call<S: WordStore>(
     call: InvokeOp,
     place: u16,
+    code: &[u8],
     frames: &mut Frames,
     memory: &mut Memory<S>,
     linked: &Linked,
 ) -> Result<(), StepExit>
     requires up { memory.old.heap.down ≡ false }
+    requires short { length code.now < 2 ^ 16 }
+    requires runs { IsRunningCode code.now linked.now frames.old }
     ensures { Executes (bind (invoke_instruction call place linked.now frames.old memory.old)
         memory.old (λ next v. throw_from place linked.now next v)) memory.old
         (after_instruction result frames.new memory.new) }
 {
-    match invoke_instruction(call, place, frames, memory, linked) {
+    match invoke_instruction(call, place, code, frames, memory, linked) {
         Ok(()) => Ok(()),
         Err(exit) => throw_exit(exit, place, frames, memory, linked),
     }
@@ -291,17 +299,20 @@ fn throw_stop<S: WordStore>(
     throw_ended(Err(StepExit::from(*stop)), place, frames, memory, linked)
 }
 
-/// Does what is left of a step at a pause, and throws what it throws. The end of a method throws nothing, so it takes no way out of line. Returns
-/// and calls have ways of their own, so that they need no memory for what others throw.
+/// Does what is left of a step of this code at a pause, and throws what it throws. The end of a method throws nothing, so it takes no way out of
+/// line. Returns and calls have ways of their own, so that they need no memory for what others throw.
 #[tactic(auto, using(jc_memory::proofs::ProgramLemmas::in_two_calls, crate::proofs::StepEnds::ended_step))]
 #[inline(always)]
 pub(crate) fn finish<S: WordStore>(
     pause: &PausedStep,
+    code: &[u8],
     frames: &mut Frames,
     memory: &mut Memory<S>,
     linked: &Linked,
 ) -> Result<(), StepExit>
     requires up { memory.old.heap.down ≡ false }
+    requires short { length code.now < 2 ^ 16 }
+    requires runs { WhereNeeded pause.now.why (IsRunningCode code.now linked.now frames.old) }
     ensures { Executes (step_rest pause.now linked.now frames.old memory.old) memory.old
         (after_instruction result frames.new memory.new) }
 {
@@ -309,7 +320,7 @@ pub(crate) fn finish<S: WordStore>(
         FramesExit::Exit(stop) => throw_stop(stop, pause.place, frames, memory, linked),
         FramesExit::Needs(instr) => match instr {
             Instr::Return(how) => return_if_had(*how, frames, memory),
-            Instr::Invoke(call) => finish_call(*call, pause.place, frames, memory, linked),
+            Instr::Invoke(call) => finish_call(*call, pause.place, code, frames, memory, linked),
             _ => {
                 let ended = execute(instr, pause.place, frames, memory, linked);
                 if ended.is_ok() {

@@ -1,6 +1,7 @@
 use Rattle.std.proofs.Common.{◌≡◌, arith, sym, ◌∙◌, ap}
 use Rattle.jc_interp.specs.Step.{code_of}
 use Rattle.jc_interp.proofs.Advances.{away_fewer, goes_on, needed, pauses, used_up}
+use Rattle.jc_interp.proofs.RunningCode.{still_needed}
 use Rattle.jc_interp.proofs.frames_only.run_in_frames.Goals as goal
 use Rattle.jc_interp.proofs.frames_only.run_in_frames.Goals.{in-Err+else-not-read_at_once, in_default}
 
@@ -10,6 +11,10 @@ returns-then-not-read_at_once-clause-same g c = λ attack more lent away own. c.
     (own ∙ ap (λ o. code_of lent c.args.linked.now o.package_number) (sym c.loop-left.invariant.origin)) c.loop-left.left more
     c.loop-left-test.true (away_fewer attack c.args.budget c.loop-left.left more c.loop-left.invariant.few away) c.in-Err.pause c.in-Err.ensures.place
     (rw (c.if-not-read_at_once.ensures 0) (c.in-Err.ensures.same c.args.linked.now c.args.memory.now))
+
+pub returns-then-not-read_at_once-clause-origin : goal.returns-then-not-read_at_once-clause-origin
+returns-then-not-read_at_once-clause-origin g c = still_needed c.in-Err.pause.why c.loop-left.frames c.step_in_frames.new.frames c.args.frames.now
+    c.read_at_once.new.frames c.in-Err.ensures.kept c.loop-left.invariant.origin (c.if-not-read_at_once.ensures 0)
 
 pub loop-left-preserved : goal.loop-left-preserved
 loop-left-preserved g c = elim c.match-step_in_frames.branch [

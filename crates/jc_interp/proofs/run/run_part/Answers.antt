@@ -7,7 +7,12 @@ use Rattle.jc_interp.specs.Step.{code_of}
 use Rattle.jc_interp.specs.PausedSteps.{step_rest}
 use Rattle.jc_interp.proofs.Advances.{away_fewer}
 use Rattle.jc_interp.proofs.Runs.{run_cut, run_ended, run_thrown, run_more}
+use Rattle.jc_interp.proofs.RunningCode.{paused_code}
 use Rattle.jc_interp.proofs.run.run_part.Goals as goal
+
+pub finish-requires-clause-runs : goal.finish-requires-clause-runs
+finish-requires-clause-runs g c = paused_code c.in-Some.pause.why c.args.lent.now c.loop-rest.code.now c.args.linked.now c.loop-rest.number
+    c.loop-rest.frames c.run_in_frames.new.frames c.loop-rest.invariant.own c.loop-rest.invariant.here c.in-Some.ensures.origin
 
 pub note_end-requires : goal.note_end-requires
 note_end-requires g c =

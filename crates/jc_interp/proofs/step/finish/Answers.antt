@@ -11,6 +11,9 @@ use Rattle.jc_interp.proofs.Lent.{had_call}
 use Rattle.jc_interp.proofs.QuietReturns.{return_step}
 use Rattle.jc_interp.proofs.step.finish.Goals as goal
 
+pub finish_call-requires-clause-runs : goal.finish_call-requires-clause-runs
+finish_call-requires-clause-runs g c = rw c.in-Needs.is at c.requires.runs
+
 pub returns-in-Return : goal.returns-in-Return
 returns-in-Return g c = rw (c.in-Needs.is, c.in-Return.is) (return_step c.in-Return.how c.args.frames.now c.args.memory.now _
     c.args.pause.now.place c.args.linked.now c.return_if_had.ensures)
