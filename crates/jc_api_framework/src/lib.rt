@@ -27,4 +27,4 @@ pub use owner_pin::call_pin;
 pub use row_laws::arguments_are_read_by_rows;
 pub use system::call_system;
 pub use system::transactions::{jc_system_begin_transaction, jc_system_commit_transaction};
-pub use util::{call_util, util_get_short, util_set_short};
+pub use util::{call_util, short_at_once, util_get_short, util_set_short};

@@ -6,11 +6,12 @@ pub mod law;
 pub(crate) mod pair;
 pub(crate) mod storing;
 
-ghost use Rattle.std.specs.Prelude.{◌≡◌, ◌+◌, ◌<◌, false};
+ghost use Rattle.std.specs.Prelude.{◌≡◌, ◌+◌, ◌<◌, false, true, IfSome, Ok};
+ghost use Rattle.jc_heap.specs.declared.object.Kind.TheVariants.{ByteArray};
 ghost use Rattle.jc_memory.specs.Programs.{Executes};
 ghost use Rattle.jc_linker.specs.Values.{Packages};
 ghost use Rattle.jc_world.specs.NativeCalls.{after_call};
-ghost use Rattle.jc_api.specs.Forms.{reading_call};
+ghost use Rattle.jc_api.specs.Forms.{reading_call, tells};
 ghost use Rattle.jc_api_framework.specs.Util.{array_copy, array_fill, end_of, short_of, sign_of, util_array_compare, util_call};
 ghost use Rattle.jc_api_framework.specs.Util.{util_get_short, util_make_short, util_set_short};
 ghost use Rattle.std.specs.Ordering.{nat_cmp};
@@ -23,11 +24,13 @@ use crate::util::pair::named_pair;
 use crate::util::storing::store;
 use jc_api::{counted_of, two_of};
 use jc_frames::Cell;
+use jc_heap::{Facts, Kind};
 use jc_linker::linked::Linked;
 use jc_memory::Memory;
 use jc_platform::names::UtilitiesMethod;
 use jc_words::WordStore;
-use jc_world::arguments::short_argument;
+use jc_world::arguments::{reference_argument, short_argument};
+use jc_world::contexts::is_own;
 use jc_world::{NativeResult, StepExit, Stretch, short};
 use std::cmp::Ordering;
 
@@ -44,6 +47,17 @@ fn short_of(high: u8, low: u8) -> i16
     ensures { result ≡ short_of high low }
 {
     (u16::from(high) * 256 + u16::from(low)).cast_signed()
+}
+
+// The object is an array of bytes.
+#[inline(always)]
+const fn is_byte_array(facts: Facts) -> bool
+    ensures { result ≡ true → facts.kind ≡ ByteArray }
+{
+    match facts.kind {
+        Kind::ByteArray => true,
+        _ => false,
+    }
 }
 
 // `Util.arrayCopy` and `Util.arrayCopyNonAtomic`: copies bytes, as if through a copy; as one change, or those of a persistent
@@ -100,6 +114,32 @@ pub fn util_set_short<S: WordStore>(
     let to = two_of(args, memory, linked)?;
     memory.set_two_bytes(to.array, to.start, (word / 256) as u8, (word % 256) as u8)?;
     Ok(short(end_of(&to)))
+}
+
+/// What `Util.getShort` returns of an array that belongs to the owner for whom code runs and has both bytes. `None` says nothing of the call.
+#[tactic(auto, unfolding(crate::specs::Util::util_get_short, jc_api::specs::Arguments::elements_at, jc_world::specs::Arrays::bytes_argument, jc_world::specs::Arrays::elements_of))]
+#[inline(always)]
+pub fn short_at_once<S: WordStore>(args: &[Cell], memory: &Memory<S>) -> Option<i16>
+    requires up { memory.now.heap.down ≡ false }
+    ensures { IfSome result (λ value. (p : Packages) → util_get_short args.now p memory.now
+        ≡ Ok (tells value)) }
+{
+    let array = reference_argument(args, 0).ok()?;
+    let start = short_argument(args, 1).ok()?;
+    if start < 0 || array.is_null() || !memory.knows(array) {
+        return None;
+    }
+    let facts = memory.facts(array);
+    if !is_byte_array(facts) || !is_own(facts, memory) {
+        return None;
+    }
+    let start = start.cast_unsigned();
+    if start + 2 > facts.length {
+        return None;
+    }
+    let high = memory.byte(array, start);
+    let low = memory.byte(array, start + 1);
+    Some(short_of(high, low))
 }
 
 /// `Util.getShort`: returns the short of two bytes.

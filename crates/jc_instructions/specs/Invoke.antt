@@ -198,6 +198,11 @@ IsSwitchedTo access p m f owner = (method : Method) (n : ℕ) → call_decision 
 abbrev pub call_of_code : Callee → MethodCall
 call_of_code c = call_of (Code c.package_number c.offset) c.arguments c.switches_to
 
+-- an entry that names a method of the platform, for virtual calls
+abbrev pub IsOfPlatform : Target → Type 0
+IsOfPlatform (VirtualMethod class token (Native method)) = Unit {0}
+IsOfPlatform other = ⊥
+
 -- a call of a method of the platform was chosen, with as many cells as arguments as it takes
 abbrev pub ChoosesOfPlatform : Result MethodCall FrameExit → PlatformMethod → Type 0
 ChoosesOfPlatform result method = (owner : Option Owner) × (result ≡ Ok (call_of (Native method) (argument_cells method) owner))

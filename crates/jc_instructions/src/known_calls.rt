@@ -12,7 +12,7 @@ ghost use Rattle.jc_firewall.specs.declared.subject.Context.TheVariants.{Jcre};
 ghost use Rattle.jc_world.specs.Contexts.{firewall_decision};
 ghost use Rattle.jc_frames.specs.Calls.{arguments_on};
 ghost use Rattle.jc_platform.specs.Signatures.{argument_cells};
-ghost use Rattle.jc_instructions.specs.Invoke.{ChoosesOfPlatform, IsFoundAt, IsFoundCode, IsSwitchedTo, arguments_of, call_of, call_of_code, invokeinterface, invokevirtual};
+ghost use Rattle.jc_instructions.specs.Invoke.{ChoosesOfPlatform, IsFoundAt, IsFoundCode, IsOfPlatform, IsSwitchedTo, arguments_of, call_of, call_of_code, invokeinterface, invokevirtual};
 ghost use Rattle.jc_instructions.specs.Invoke.{class_of, header_of, interface_access, is_null_on};
 ghost use Rattle.jc_instructions.specs.Invoke.{receiver_of, receiver_on, virtual_by};
 
@@ -266,7 +266,7 @@ fn named_of_platform<'f, S: WordStore>(
 }
 
 /// The method of the platform that this entry names, how many cells its arguments have, and these, where a virtual call by the entry runs this very
-/// method and no more has to be asked than of most calls; else, and of other entries, nothing.
+/// method and no more has to be asked than of most calls; else nothing.
 #[inline(always)]
 pub fn named_method_of_platform<'f, S: WordStore>(
     entry: &Target,
@@ -275,6 +275,7 @@ pub fn named_method_of_platform<'f, S: WordStore>(
     linked: &Linked,
 ) -> Option<(PlatformMethod, u8, &'f [Cell])>
     requires up { memory.now.heap.down ≡ false }
+    requires platform { IsOfPlatform entry.now }
     ensures chosen { IfSome result (λ r. ChoosesOfPlatform (virtual_by
         (Some entry.now) linked.now frames.entry.now.current.stack memory.now) r.0) }
     ensures cells { IfSome result (λ r. r.1 ≡ argument_cells r.0) }
@@ -294,7 +295,7 @@ pub fn named_method_of_platform<'f, S: WordStore>(
             };
             Some((*method, count, arguments))
         }
-        _ => None,
+        _ => unreachable!(),
     }
 }
 
