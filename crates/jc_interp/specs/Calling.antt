@@ -1,5 +1,5 @@
 -- Calls: methods of the platform are carried out at once, those in bytecode get a frame.
-use Rattle.std.specs.Prelude.{ℕ, ◌==◌, drop, Result, Ok, Err, if◌then◌else◌}
+use Rattle.std.specs.Prelude.{ℕ, Bool, true, false, ◌==◌, drop, Result, Ok, Err, if◌then◌else◌}
 use Rattle.jc_memory.specs.State.{MemoryState}
 use Rattle.jc_memory.specs.Programs.{Program, Finish, bind}
 use Rattle.jc_platform.specs.declared.names.PlatformMethod.{PlatformMethod}
@@ -14,6 +14,7 @@ use Rattle.jc_frames.specs.Calls.{arguments_on, frames_without_dead}
 use Rattle.jc_frames.specs.Frames.{Frames, Next, Ends, in_frame, push, with_stack}
 use Rattle.jc_world.specs.declared.native_result.NativeResult.{NativeResult}
 use Rattle.jc_world.specs.declared.native_result.NativeResult.TheVariants.{ReturnVoid, ReturnValue, CallServer, Aborted}
+use Rattle.jc_world.specs.declared.step_exit.StepExit.{StepExit}
 use Rattle.jc_world.specs.Instructions.{continue_with, if_ok, if_some, exit_of}
 use Rattle.jc_instructions.specs.declared.invoke.MethodCall.{MethodCall}
 use Rattle.jc_instructions.specs.ServerCall.{server_call}
@@ -58,3 +59,8 @@ static_invoke method place p s m = if_ok s (invokestatic method p) (λ c. invoke
 -- a call by the instruction at a place
 unfoldable pub invoke_instruction : InvokeOp → ℕ → Packages → Frames → MemoryState → Program (Next Frames)
 invoke_instruction invoke place p s m = if_ok s (method_selection invoke p s m) (λ c. invoke_selected c.method c place p s m)
+
+-- how a call ended that says whether code goes on, and left its exit where it does not
+abbrev pub ended : Bool → StepExit → Result (Unit {0}) StepExit
+ended true exit = Ok tt
+ended false exit = Err exit

@@ -3,21 +3,23 @@ ghost use Rattle.std.specs.Prelude.{◌≡◌, ◌<◌, ◌^◌, false, length, 
 ghost use Rattle.jc_frames.specs.declared.instr.InvokeOp.TheVariants.{Special, Static, Virtual};
 ghost use Rattle.jc_frames.specs.declared.method.CallKind.TheVariants.{Instruction};
 ghost use Rattle.jc_linker.specs.declared.target.Method.TheVariants.{Code, Native};
+ghost use Rattle.jc_platform.specs.declared.names.PlatformMethod.TheVariants.{Utilities};
+ghost use Rattle.jc_platform.specs.declared.names.UtilitiesMethod.TheVariants.{UtilGetShort};
 ghost use Rattle.jc_linker.specs.Lookups.{target_at};
 ghost use Rattle.jc_memory.specs.Programs.{Executes};
 ghost use Rattle.jc_world.specs.Instructions.{after_instruction};
-ghost use Rattle.jc_instructions.specs.Invoke.{call_of_code, header_of, method_selection};
+ghost use Rattle.jc_instructions.specs.Invoke.{IsOfPlatform, call_of_code, header_of, method_selection};
 ghost use Rattle.jc_instructions.specs.MethodComponent.{method_component_of};
-ghost use Rattle.jc_platform.specs.Signatures.{argument_cells};
-ghost use Rattle.jc_interp.specs.Calling.{after_native_return, invoke_instruction, invoke_selected, native_invoke, static_invoke};
+ghost use Rattle.jc_interp.specs.Calling.{after_native_return, ended, invoke_instruction, invoke_selected, native_invoke, static_invoke};
 ghost use Rattle.jc_interp.specs.RunningCode.{IsRunningCode};
 
 use crate::natives::{call_native, call_other};
 use crate::own_calls::{
     component_of, select_own_code, select_own_implementation, select_own_special, short_header_at,
 };
+use jc_api_framework::short_at_once;
 use jc_frames::instr::InvokeOp;
-use jc_frames::{CallKind, Frames, Outcome, header_at};
+use jc_frames::{CallKind, Cell, Frames, Outcome, header_at};
 use jc_instructions::enter::{CallSite, Callee, enter};
 use jc_instructions::invoke::{SelectedCall, select_method};
 use jc_instructions::known_calls::{
@@ -28,13 +30,13 @@ use jc_instructions::server_call::call_server;
 use jc_linker::linked::Linked;
 use jc_linker::target::{Method, Target};
 use jc_memory::Memory;
-use jc_platform::names::PlatformMethod;
+use jc_platform::names::{PlatformMethod, SystemMethod, UtilitiesMethod};
 use jc_words::WordStore;
 use jc_world::{NativeResult, StepExit};
 
 // The frames go on with what a method of the platform answered, whose arguments were taken, out of line.
 #[inline(never)]
-fn rare_answer<S: WordStore>(
+fn answer<S: WordStore>(
     answer: NativeResult,
     place: u16,
     frames: &mut Frames,
@@ -59,55 +61,49 @@ fn rare_answer<S: WordStore>(
     }
 }
 
-// The same, where what most methods answer stays in line.
+// Whether code goes on after an instruction that ended so; where it does not, the exit is left in its room.
 #[inline(always)]
-fn answer<S: WordStore>(
-    answer: NativeResult,
-    place: u16,
-    frames: &mut Frames,
-    memory: &mut Memory<S>,
-    linked: &Linked,
-) -> Result<(), StepExit>
-    requires up { memory.old.heap.down ≡ false }
-    ensures { Executes (after_native_return answer place linked.now frames.old memory.old)
-        memory.old (after_instruction result frames.new memory.new) }
+fn goes_on(end: Result<(), StepExit>, exit: &mut StepExit) -> bool
+    ensures { ended result exit.new ≡ end }
 {
-    match answer {
-        NativeResult::ReturnVoid => Ok(()),
-        NativeResult::ReturnValue(cell) => {
-            frames.try_push(cell)?;
-            Ok(())
+    match end {
+        Ok(()) => true,
+        Err(stop) => {
+            *exit = stop;
+            false
         }
-        other => rare_answer(other, place, frames, memory, linked),
     }
 }
 
-// Carries out a method of the platform with as many cells as arguments as it takes, called by the instruction at a place.
-#[tactic(auto, using(jc_memory::proofs::ProgramLemmas::in_two_calls), unfolding(crate::specs::Calling::native_invoke))]
+// The same after what a method of the platform answered, whose arguments were taken. What most methods answer stays in line.
 #[inline(always)]
-fn carry_out_native<S: WordStore>(
-    method: PlatformMethod,
-    count: u8,
+fn goes_on_after<S: WordStore>(
+    answered: NativeResult,
     place: u16,
     frames: &mut Frames,
     memory: &mut Memory<S>,
     linked: &Linked,
-) -> Result<(), StepExit>
+    exit: &mut StepExit,
+) -> bool
     requires up { memory.old.heap.down ≡ false }
-    requires cells { count ≡ argument_cells method }
-    ensures { Executes (native_invoke method count place linked.now frames.old memory.old)
-        memory.old (after_instruction result frames.new memory.new) }
+    ensures { Executes (after_native_return answered place linked.now frames.old memory.old)
+        memory.old (after_instruction (ended result exit.new) frames.new memory.new) }
 {
-    let Some(arguments) = frames.arguments(count) else {
-        return Err(StepExit::End(Outcome::Fault));
-    };
-    let answered = call_native(method, arguments, memory, linked)?;
-    frames.discard(count);
-    answer(answered, place, frames, memory, linked)
+    match answered {
+        NativeResult::ReturnVoid => true,
+        NativeResult::ReturnValue(cell) => match frames.try_push(cell) {
+            Ok(()) => true,
+            Err(fault) => {
+                *exit = StepExit::from(fault);
+                false
+            }
+        },
+        other => goes_on(answer(other, place, frames, memory, linked), exit),
+    }
 }
 
-// The same with this many cells as arguments, which may be others than it takes.
-#[tactic(auto, unfolding(crate::specs::Calling::native_invoke))]
+// Carries out a method of the platform with this many cells as arguments, which may be others than it takes, called by the instruction at a place.
+#[tactic(auto, using(jc_memory::proofs::ProgramLemmas::in_two_calls), unfolding(crate::specs::Calling::native_invoke))]
 #[inline(never)]
 fn invoke_native<S: WordStore>(
     method: PlatformMethod,
@@ -124,7 +120,12 @@ fn invoke_native<S: WordStore>(
     if count != method.argument_cells() {
         return Err(StepExit::End(Outcome::Fault));
     }
-    carry_out_native(method, count, place, frames, memory, linked)
+    let Some(arguments) = frames.arguments(count) else {
+        return Err(StepExit::End(Outcome::Fault));
+    };
+    let answered = call_other(method, arguments, memory, linked)?;
+    frames.discard(count);
+    answer(answered, place, frames, memory, linked)
 }
 
 // Where a call by the instruction at a place comes from.
@@ -292,33 +293,9 @@ fn invoke_other_of_platform<S: WordStore>(
     call_other_of_platform(entry, index, place, frames, memory, linked)
 }
 
-// The same, where most calls run the very method that the entry names: of these nothing else is asked.
+// The same, where most calls run the very method that the entry names: of these nothing else is asked. Where code goes on, it leaves by a way of its
+// own, which hands on nothing of an exit.
 #[tactic(auto, using(jc_memory::proofs::ProgramLemmas::in_two_calls), unfolding(crate::specs::Calling::invoke_instruction, crate::specs::Calling::native_invoke, jc_instructions::specs::Invoke::method_selection))]
-#[inline(always)]
-fn call_of_platform<S: WordStore>(
-    entry: &Target,
-    index: u16,
-    place: u16,
-    frames: &mut Frames,
-    memory: &mut Memory<S>,
-    linked: &Linked,
-) -> Result<(), StepExit>
-    requires up { memory.old.heap.down ≡ false }
-    requires entry { Some entry.now ≡ target_at linked.now frames.old.current.origin.package_number
-        index }
-    ensures { Executes (invoke_instruction (Virtual index) place linked.now frames.old memory.old)
-        memory.old (after_instruction result frames.new memory.new) }
-{
-    let known = named_method_of_platform(entry, frames, memory, linked);
-    let Some((method, cells, arguments)) = known else {
-        return invoke_other_of_platform(entry, index, place, frames, memory, linked);
-    };
-    let answered = call_native(method, arguments, memory, linked)?;
-    frames.discard(cells);
-    answer(answered, place, frames, memory, linked)
-}
-
-// The same out of line. Where code goes on, it leaves by a way of its own, which hands on nothing of an exit.
 #[inline(never)]
 fn invoke_of_platform<S: WordStore>(
     entry: &Target,
@@ -331,14 +308,24 @@ fn invoke_of_platform<S: WordStore>(
     requires up { memory.old.heap.down ≡ false }
     requires entry { Some entry.now ≡ target_at linked.now frames.old.current.origin.package_number
         index }
+    requires platform { IsOfPlatform entry.now }
     ensures { Executes (invoke_instruction (Virtual index) place linked.now frames.old memory.old)
         memory.old (after_instruction result frames.new memory.new) }
 {
-    let ended = call_of_platform(entry, index, place, frames, memory, linked);
-    if ended.is_err() {
-        return ended;
+    let known = named_method_of_platform(entry, frames, memory, linked);
+    let Some((method, cells, arguments)) = known else {
+        return invoke_other_of_platform(entry, index, place, frames, memory, linked);
+    };
+    let answered = call_native(method, arguments, memory, linked)?;
+    frames.discard(cells);
+    match answered {
+        NativeResult::ReturnVoid => return Ok(()),
+        NativeResult::ReturnValue(cell) => {
+            frames.try_push(cell)?;
+            return Ok(());
+        }
+        other => answer(other, place, frames, memory, linked),
     }
-    Ok(())
 }
 
 // A static call of a method in bytecode by the instruction at a place, out of line: any header.
@@ -415,32 +402,113 @@ fn invoke_static_code<S: WordStore>(
     enter(Some(header), callee, called_at(place), frames, memory)
 }
 
-// A static call of a method of the platform, out of line, which leaves likewise.
-#[tactic(auto, unfolding(jc_instructions::specs::Invoke::invokestatic, jc_instructions::specs::Invoke::arguments_of))]
-#[inline(never)]
-fn invoke_static_native<S: WordStore>(
+// Whether code goes on after a static call of a method of the platform.
+#[tactic(auto, using(jc_memory::proofs::ProgramLemmas::in_two_calls), unfolding(crate::specs::Calling::native_invoke, jc_instructions::specs::Invoke::invokestatic, jc_instructions::specs::Invoke::arguments_of))]
+#[inline(always)]
+fn goes_on_after_static<S: WordStore>(
     method: PlatformMethod,
     place: u16,
     frames: &mut Frames,
     memory: &mut Memory<S>,
     linked: &Linked,
-) -> Result<(), StepExit>
+    exit: &mut StepExit,
+) -> bool
     requires up { memory.old.heap.down ≡ false }
     ensures { Executes (static_invoke (Native method) place linked.now frames.old memory.old)
-        memory.old (after_instruction result frames.new memory.new) }
+        memory.old (after_instruction (ended result exit.new) frames.new memory.new) }
 {
     if method.is_constructor() {
-        return Err(StepExit::End(Outcome::Fault));
+        *exit = StepExit::End(Outcome::Fault);
+        return false;
     }
-    let count = method.argument_cells();
-    let ended = carry_out_native(method, count, place, frames, memory, linked);
-    if ended.is_err() {
-        return ended;
+    let cells = method.argument_cells();
+    let Some(arguments) = frames.arguments(cells) else {
+        *exit = StepExit::End(Outcome::Fault);
+        return false;
+    };
+    match call_native(method, arguments, memory, linked) {
+        Ok(answered) => {
+            frames.discard(cells);
+            goes_on_after(answered, place, frames, memory, linked, exit)
+        }
+        Err(stop) => {
+            *exit = stop;
+            false
+        }
     }
-    Ok(())
 }
 
-// The same in line: its answer has memory of its own.
+// The same of `Util.getShort`. What is known at once goes no way over memory.
+#[inline(always)]
+fn goes_on_after_get_short<S: WordStore>(
+    place: u16,
+    frames: &mut Frames,
+    memory: &mut Memory<S>,
+    linked: &Linked,
+    exit: &mut StepExit,
+) -> bool
+    requires up { memory.old.heap.down ≡ false }
+    ensures { Executes (static_invoke (Native (Utilities UtilGetShort)) place linked.now frames.old
+        memory.old) memory.old (after_instruction (ended result exit.new) frames.new memory.new) }
+{
+    if let Some(arguments) = frames.arguments(2) {
+        if let Some(value) = short_at_once(arguments, memory) {
+            frames.discard(2);
+            let answered = NativeResult::ReturnValue(Cell::Short(value));
+            return goes_on_after(answered, place, frames, memory, linked, exit);
+        }
+    }
+    let method = PlatformMethod::Utilities(UtilitiesMethod::UtilGetShort);
+    goes_on_after_static(method, place, frames, memory, linked, exit)
+}
+
+/// The same out of line. Of the methods that commands call most, the rows are known when this is compiled.
+#[inline(never)]
+fn goes_on_after_any_static<S: WordStore>(
+    method: PlatformMethod,
+    place: u16,
+    frames: &mut Frames,
+    memory: &mut Memory<S>,
+    linked: &Linked,
+    exit: &mut StepExit,
+) -> bool
+    requires up { memory.old.heap.down ≡ false }
+    ensures { Executes (static_invoke (Native method) place linked.now frames.old memory.old)
+        memory.old (after_instruction (ended result exit.new) frames.new memory.new) }
+{
+    match method {
+        PlatformMethod::Utilities(UtilitiesMethod::UtilGetShort) => {
+            goes_on_after_get_short(place, frames, memory, linked, exit)
+        }
+        PlatformMethod::Utilities(UtilitiesMethod::UtilSetShort) => goes_on_after_static(
+            PlatformMethod::Utilities(UtilitiesMethod::UtilSetShort),
+            place,
+            frames,
+            memory,
+            linked,
+            exit,
+        ),
+        PlatformMethod::System(SystemMethod::JcSystemBeginTransaction) => goes_on_after_static(
+            PlatformMethod::System(SystemMethod::JcSystemBeginTransaction),
+            place,
+            frames,
+            memory,
+            linked,
+            exit,
+        ),
+        PlatformMethod::System(SystemMethod::JcSystemCommitTransaction) => goes_on_after_static(
+            PlatformMethod::System(SystemMethod::JcSystemCommitTransaction),
+            place,
+            frames,
+            memory,
+            linked,
+            exit,
+        ),
+        other => goes_on_after_static(other, place, frames, memory, linked, exit),
+    }
+}
+
+// The same in line.
 #[inline(always)]
 fn call_static_native<S: WordStore>(
     method: PlatformMethod,
@@ -453,8 +521,11 @@ fn call_static_native<S: WordStore>(
     ensures { Executes (static_invoke (Native method) place linked.now frames.old memory.old)
         memory.old (after_instruction result frames.new memory.new) }
 {
-    invoke_static_native(method, place, frames, memory, linked)?;
-    Ok(())
+    let mut exit = StepExit::Down;
+    if goes_on_after_any_static(method, place, frames, memory, linked, &mut exit) {
+        return Ok(());
+    }
+    Err(exit)
 }
 
 // A static call by the instruction at a place.
