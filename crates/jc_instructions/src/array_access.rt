@@ -7,7 +7,7 @@ ghost use Rattle.jc_instructions.specs.ArrayAccess.{element_read, element_write,
 
 use crate::array_elements::{array, element_value, with_index};
 use crate::known_values::known_value;
-use crate::open_cells::open_array;
+use crate::open_cells::{is_number, open_array};
 use jc_frames::instr::ValueType;
 use jc_frames::{Cell, Frames};
 use jc_linker::linked::Linked;
@@ -82,7 +82,7 @@ fn element_write<S: WordStore>(
     ensures { Executes (element_write of_type reference index value linked.now frames.now
         memory.old) memory.old (after_instruction result frames.now memory.new) }
 {
-    if let CellValue::Short(_) = value {
+    if is_number(&value) {
         if let Some(header) = open_array(of_type, reference, memory) {
             if let Ok(element) = with_index(header, index) {
                 memory.set_known(reference, header, element.index, value)?;

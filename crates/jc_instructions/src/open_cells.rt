@@ -1,6 +1,6 @@
 //! Cells that code reaches at once, since no rule refuses it: fields of own persistent objects, and elements of own arrays and of the runtime
 //! environment's.
-ghost use Rattle.std.specs.Prelude.{◌≡◌, ◌<◌, false, true, Some, Ok, IfSome};
+ghost use Rattle.std.specs.Prelude.{ℕ, ◌≡◌, ◌<◌, false, true, Some, Ok, IfSome};
 ghost use Rattle.jc_heap.specs.Heap.{IsObject};
 ghost use Rattle.jc_memory.specs.Cells.{IsHeaderOf};
 ghost use Rattle.jc_memory.specs.State.{MemoryState};
@@ -11,7 +11,7 @@ ghost use Rattle.jc_world.specs.Contexts.{firewall_decision};
 ghost use Rattle.jc_world.specs.Objects.{is_instance};
 ghost use Rattle.jc_world.specs.Values.{keepable};
 ghost use Rattle.jc_instructions.specs.Fields.{field_cell};
-ghost use Rattle.jc_instructions.specs.ArrayElements.{array_at, has_elements};
+ghost use Rattle.jc_instructions.specs.ArrayElements.{array_at, element_value, has_elements, Refers};
 ghost use Rattle.jc_heap.specs.declared.object.Kind.TheVariants.{Instance};
 
 use crate::array_elements::has_elements;
@@ -110,4 +110,20 @@ pub(crate) fn open_array<S: WordStore>(
         return None;
     }
     Some(header)
+}
+
+// Whether a value is a number, which may be kept, and be an element of an array of numbers.
+#[inline(always)]
+#[tactic(auto, unfolding(crate::specs::ArrayElements::element_value))]
+pub(crate) fn is_number(value: &CellValue) -> bool
+    ensures kept { (p : Packages) (m : MemoryState) → result ≡ true
+        → keepable p m value.now ≡ Ok value.now }
+    ensures element { (p : Packages) (m : MemoryState) (class : ℕ) → result ≡ true
+        → element_value p m class value.now ≡ Ok value.now }
+    ensures refers { (m : MemoryState) → result ≡ true → Refers m value.now }
+{
+    match *value {
+        CellValue::Short(_) => true,
+        CellValue::Reference(_) => false,
+    }
 }
