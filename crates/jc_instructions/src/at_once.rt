@@ -31,7 +31,7 @@ pub(crate) fn names_object<S: WordStore>(reference: Ref, memory: &Memory<S>) -> 
     !reference.is_null() && memory.knows(reference)
 }
 
-// The value of a field in the object that a reference names, as it comes on the stack, where the object is such a one.
+// The value of a field in the object that a reference names, as it comes on the stack, where `own_header` finds its header.
 #[inline(always)]
 fn own_field_value<S: WordStore>(
     of_type: ValueType,
