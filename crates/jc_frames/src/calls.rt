@@ -67,7 +67,8 @@ impl Frames {
     pub fn counted_cells(&self) -> usize
         ensures { result ≡ counted_cells self.now }
     {
-        self.current.ceiling
+        let frame = &self.current;
+        frame.ceiling
     }
 
     /// Ends the frame that runs: its caller's goes on. `None`, and nothing changes, where nothing
