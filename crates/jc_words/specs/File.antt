@@ -64,7 +64,7 @@ pub record IsOver {F : Type 0} (unread bytes : F → Option (List ℕ)) (failure
   pub size : IsImageSize (2 * length store.words)
   pub kept : bytes store.file ≡ bytes file
   pub none_failed : failures store.file ≡ failures file
-  pub fresh : store ≡ record { file = store.file; words = store.words; down = false; passed = 0; refused = 0; faults = 0 }
+  pub fresh : store ≡ record { file = store.file; words = store.words; held = None; down = false; passed = 0; refused = 0; faults = 0 }
 
 -- the bytes, where they are known, are not as many as an image has
 abbrev pub IsOfBadSize : Option (List ℕ) → Type 0
@@ -139,7 +139,7 @@ abbrev pub IsCreated : {F : Type 0} → (Result F OpenFailed → Type 0) → (F 
     → (F → Result Unit FileFailed → F → Type 0) → (F → Option (List ℕ)) → (F → Result Unit FileFailed → F → Type 0) → ℕ
     → Result (FileStoreValue (StdFile F)) FileCreateFault → Type 0
 IsCreated opens gives empties contents flushes n (Ok store) =
-    (store ≡ record { file = record { inner = store.file.inner; failures = 0 }; words = replicate n 0; down = false; passed = 0; refused = 0; faults = 0 })
+    (store ≡ record { file = record { inner = store.file.inner; failures = 0 }; words = replicate n 0; held = None; down = false; passed = 0; refused = 0; faults = 0 })
     × IsMadeOf opens gives empties contents flushes (replicate (2 * n) 0) (Ok store.file.inner)
 IsCreated opens gives empties contents flushes n (Err fault) = IsMadeOf opens gives empties contents flushes (replicate (2 * n) 0) (Err fault)
 

@@ -1,4 +1,4 @@
-"""Commands, and recoveries, that are cut after each number of their word writes."""
+"""Commands that are cut after each number of their word writes, and after each number of words that the file takes; and recoveries after each of theirs."""
 import re
 from typing import NamedTuple
 
@@ -8,24 +8,29 @@ from . import moves
 OTHER_LINES = "other lines than commands"
 EMPTY_COMMAND = " \n"  # is answered 6700, and writes nothing
 NO_FORM = "no such moves"
+MOST_WRITES = 0x10000
 
 
 class Left(NamedTuple):
-    """What a run left: the image, how many words it wrote, and what it printed."""
+    """What a run left: the image, how many words the file took, and what it printed."""
     image: bytes
     writes: int
     printed: str
 
+    def is_down(self):
+        """Whether the card was down at the end."""
+        return self.printed.endswith("down\n")
 
-def is_cut_of(cut, whole, writes):
-    """Whether a run is another one that was cut after this number of writes: its answers up to the cut, and `down` from then on."""
+
+def is_cut_of(cut, whole):
+    """Whether a run is another one that was cut: its answers up to the cut, and `down` from then on."""
     is_down = False
     for line, wanted in zip(cut.printed.split("\n"), whole.printed.split("\n")):
         if line == "down":
             is_down = True
         elif line and (is_down or line != wanted):
             return False
-    return cut.writes == writes and is_down == (writes < whole.writes) and cut.printed.count("\n") == whole.printed.count("\n")
+    return cut.printed.count("\n") == whole.printed.count("\n")
 
 
 class Copies:
@@ -79,33 +84,58 @@ class Cuts:
 
     def cut(self, depth):
         """Cuts the commands after each number of their writes, and this number of recoveries that follow after each of theirs: `ok` where each time the
-        heap is left that whole copies keep after the last of the moves that end by then."""
+        heap is left that whole copies keep after the last of the moves that end by then, and where a file that fails leaves no other words."""
         try:
             told = moves.read_moves(self.moves)
         except ValueError:
             return NO_FORM
         if not all(re.fullmatch("[0-9A-Fa-f ]*", line) for line in self.commands.splitlines()):
             return OTHER_LINES
-        whole = self.run(None)
         ends = moves.ends_of(told)
         wanted = ends[-1] if ends else 0
-        if whole.writes != wanted:
-            return f"{whole.writes} writes, not the {wanted} of the moves"
+        cuts = self.until_whole(self.stopped)
+        if len(cuts) - 1 != wanted:
+            return f"{len(cuts) - 1} writes, not the {wanted} of the moves"
         copies = Copies(self.image)
-        for k in range(whole.writes + 1):
-            cut = self.run(k)
-            if not is_cut_of(cut, whole, k):
-                return f"after {k}: other answers"
+        for k, cut in enumerate(cuts):
+            if not is_cut_of(cut, cuts[-1]) or cut.writes != k:
+                return f"after {k}: other answers, or writes"
             for move, end in zip(told, ends):
                 if end == k and not copies.make(move, cut.image):
                     return f"after {k}: more than its places changed"
             wrong = self.recover(depth, cut.image, str(k), copies.durable())
             if wrong:
                 return wrong
-        return "ok"
+        return self.failing_files(cuts) or "ok"
 
-    def run(self, fuse):
-        return self.desk.run_cut(self.image, self.commands, fuse)
+    def until_whole(self, cut):
+        """The runs that are cut after 0, 1 and more, up to the first that comes to its end."""
+        runs = []
+        for count in range(MOST_WRITES):
+            runs.append(cut(count))
+            if not runs[-1].is_down():
+                break
+        return runs
+
+    def stopped(self, writes):
+        """A run of which this number of word writes passes, by a line before it."""
+        left = self.desk.run_cut(self.image, f"stop {writes}\n{self.commands}", None)
+        return left._replace(printed=left.printed.removeprefix(f"armed {writes}\n"))
+
+    def failing_files(self, cuts):
+        """What is wrong, if something is, where the file fails after each number of words: one after the other, it has the words of these runs, which
+        were cut one write later each; it may skip some of them."""
+        runs = self.until_whole(lambda words: self.desk.run_cut(self.image, self.commands, words))
+        later = iter(cut.image for cut in cuts)
+        at = next(later)
+        for words, run in enumerate(runs):
+            if not is_cut_of(run, cuts[-1]):
+                return f"where the file fails after {words}: other answers"
+            while at != run.image:
+                at = next(later, None)
+                if at is None:
+                    return f"where the file fails after {words}: the words of no cut"
+        return None if at == cuts[-1].image else "the file lacks words"
 
     def recover(self, depth, image, way, heap):
         """Lets this number of recoveries of an image be cut after each number of their writes, and the one after them come to its end, which has to leave
@@ -115,7 +145,7 @@ class Cuts:
             cut = []
             for left, ways in level_of:
                 whole = None
-                for k in range(0x10000) if level < depth else [None]:
+                for k in range(MOST_WRITES) if level < depth else [None]:
                     whole = self.desk.run_cut(left, EMPTY_COMMAND, k)
                     if whole.printed != "down\n":
                         break
