@@ -1,10 +1,11 @@
 //! Commands that applets answer, and "create applet".
-ghost use Rattle.std.specs.Prelude.{◌≡◌, ◌<◌, ◌≤◌, false, length, OnErr, OnOk};
-ghost use Rattle.jc_memory.specs.Commands.{most_command};
+ghost use Rattle.std.specs.Prelude.{◌≡◌, ◌<◌, ◌≤◌, ◌++◌, Some, false, length, OnErr, OnOk};
+ghost use Rattle.jc_memory.specs.Commands.{has_extended_length, most_command};
 ghost use Rattle.jc_memory.specs.Programs.{Executes};
 ghost use Rattle.jc_heap.specs.Completions.{after_step};
 ghost use Rattle.jc_card.specs.Answers.{after_exchange, answered};
-ghost use Rattle.jc_card.specs.Command.{apdu_value};
+ghost use Rattle.jc_card.specs.Command.{Apdu, apdu_value};
+ghost use Rattle.jc_card.specs.StatusWord.{status_bytes};
 ghost use Rattle.jc_card.specs.Dispatching.{answering, create_applet, dispatch, expected_by, expected_by_extended, expected_by_short, is_select, named_or_selected, route, status_of_ending, takes_extended, to_selected};
 
 use crate::card::Card;
@@ -14,7 +15,7 @@ use crate::status_word::StatusWord;
 use jc_dispatch::applet_result::AppletResult;
 use jc_dispatch::create::create;
 use jc_dispatch::extended_length::implements_extended_length;
-use jc_dispatch::process::{AppletCommand, process};
+use jc_dispatch::process::{AppletCommand, process, process_apart};
 use jc_dispatch::select::{select, select_manager};
 use jc_environment::applet_with_aid;
 use jc_frames::Frames;
@@ -146,7 +147,7 @@ fn status_of(ending: AppletResult) -> StatusWord
 // The selected applet answers the command.
 #[inline(always)]
 fn to_selected<S: WordStore>(
-    budget: Budget,
+    budget: &Budget,
     expected: u16,
     frames: &mut Frames,
     memory: &mut Memory<S>,
@@ -154,7 +155,7 @@ fn to_selected<S: WordStore>(
 ) -> Result<AppletResult, StoreDown>
     requires up { memory.old.heap.down ≡ false }
     requires outside { memory.old.heap.begun ≡ false }
-    ensures does { Executes (to_selected budget memory.old.registers.selected expected linked.now
+    ensures does { Executes (to_selected budget.now memory.old.registers.selected expected linked.now
         memory.old) memory.old (after_step result memory.new) }
     ensures outside { OnOk result (memory.new.heap.begun ≡ false) }
 {
@@ -165,7 +166,7 @@ fn to_selected<S: WordStore>(
                 selecting: false,
                 expected,
             };
-            process(budget, command, frames, memory, linked)
+            process_apart(budget, command, frames, memory, linked)
         }
         None => Ok(AppletResult::NotSelected),
     }
@@ -195,12 +196,56 @@ fn route<S: WordStore>(
             return select(budget, applet, expected, frames, memory, linked);
         }
     }
-    to_selected(budget, expected, frames, memory, linked)
+    to_selected(&budget, expected, frames, memory, linked)
 }
 
 impl<S: WordStore> Card<S> {
-    // Writes the response of an applet, or to the command that selects one or the manager.
+    // Writes the response of an applet whose command ended so: the data that were sent, and the status word.
+    #[inline(always)]
+    fn respond(&self, ending: AppletResult, response: &mut Response)
+        ensures { response.new ≡ self.now.memory.sent ++ status_bytes (status_of_ending ending) }
+    {
+        response.set(self.memory.sent(), status_of(ending));
+    }
+
+    // Writes the response of this applet, which is the selected one, to a command in the short form that is no SELECT.
+    #[tactic(auto, unfolding(crate::specs::Dispatching::dispatch, crate::specs::Dispatching::route), using(jc_memory::proofs::ProgramLemmas::in_two_steps))]
+    #[inline(always)]
+    pub(crate) fn answer_by(
+        &mut self,
+        applet: AppletNumber,
+        bytes: &[u8],
+        response: &mut Response,
+    ) -> Result<(), StoreDown>
+        requires up { self.old.memory.heap.down ≡ false }
+        requires selected { self.old.memory.registers.selected ≡ Some applet }
+        requires long { length bytes.now ≤ most_command }
+        requires short { has_extended_length bytes.now ≡ false }
+        ensures executes { (c : Apdu) → is_select c ≡ false
+            → Executes (dispatch bytes.now c self.old) self.old.memory
+            (after_exchange (answered result response.new) self.new) }
+        ensures unanswered { OnErr result (response.new ≡ response.old) }
+    {
+        self.memory.start(bytes);
+        let command = AppletCommand {
+            applet,
+            selecting: false,
+            expected: expected_by_short(bytes),
+        };
+        let ending = process(
+            &self.budget,
+            command,
+            &mut self.frames,
+            &mut self.memory,
+            self.linked.get(),
+        )?;
+        self.respond(ending, response);
+        Ok(())
+    }
+
+    // Writes the response of an applet, or to the command that selects one or the manager, out of line.
     #[tactic(auto, unfolding(crate::specs::Dispatching::dispatch), using(jc_memory::proofs::ProgramLemmas::in_two_steps))]
+    #[inline(never)]
     pub(crate) fn dispatch(
         &mut self,
         bytes: &[u8],
@@ -223,7 +268,7 @@ impl<S: WordStore> Card<S> {
             &mut self.memory,
             self.linked.get(),
         )?;
-        response.set(self.memory.sent(), status_of(ending));
+        self.respond(ending, response);
         Ok(())
     }
 

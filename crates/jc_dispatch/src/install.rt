@@ -115,7 +115,7 @@ pub fn install<S: WordStore>(
         arguments: &arguments,
         owner,
     };
-    let (_, outcome) = run_for(budget, call, &mut frames, memory, linked)?;
+    let (_, outcome) = run_for(&budget, call, &mut frames, memory, linked)?;
     let installation = memory.registers().installation;
     let ending = installed_by(installation, outcome, memory, linked);
     close(memory)?;

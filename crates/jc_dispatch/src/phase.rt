@@ -40,14 +40,14 @@ pub(crate) struct AppletCall<'a> {
 #[tactic(auto, unfolding(crate::specs::Phase::method_run), using(jc_memory::proofs::ProgramLemmas::in_two_steps))]
 #[inline(always)]
 pub(crate) fn run_for<S: WordStore>(
-    budget: Budget,
+    budget: &Budget,
     call: CodeCall<'_>,
     frames: &mut Frames,
     memory: &mut Memory<S>,
     linked: &Linked,
 ) -> Result<(u32, Outcome), StoreDown>
     requires up { memory.old.heap.down ≡ false }
-    ensures { Executes (method_run budget linked.now call.entry.package_number call.entry.offset
+    ensures { Executes (method_run budget.now linked.now call.entry.package_number call.entry.offset
         call.entry.arguments.now call.entry.owner memory.old) memory.old
         (after_step result memory.new) }
 {
@@ -130,14 +130,14 @@ fn default_of(name: PlatformMethod) -> Outcome
 #[tactic(auto, unfolding(crate::specs::Phase::applet_method_call))]
 #[inline(always)]
 pub(crate) fn call_applet_method<S: WordStore>(
-    budget: Budget,
+    budget: &Budget,
     call: AppletCall<'_>,
     frames: &mut Frames,
     memory: &mut Memory<S>,
     linked: &Linked,
 ) -> Result<(u32, Outcome), StoreDown>
     requires up { memory.old.heap.down ≡ false }
-    ensures { Executes (applet_method_call budget linked.now call.entry.name call.entry.instance
+    ensures { Executes (applet_method_call budget.now linked.now call.entry.name call.entry.instance
         call.entry.arguments.now call.entry.owner memory.old) memory.old
         (after_step result memory.new) }
 {

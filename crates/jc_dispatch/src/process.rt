@@ -44,14 +44,14 @@ fn with_command(expected: u16, selecting: bool, registers: Registers) -> Registe
 #[tactic(auto, unfolding(crate::specs::Select::process_command), using(jc_memory::proofs::ProgramLemmas::in_two_steps))]
 #[inline(always)]
 pub fn process<S: WordStore>(
-    budget: Budget,
+    budget: &Budget,
     command: AppletCommand,
     frames: &mut Frames,
     memory: &mut Memory<S>,
     linked: &Linked,
 ) -> Result<AppletResult, StoreDown>
     requires up { memory.old.heap.down ≡ false }
-    ensures does { Executes (process_command budget linked.now command.applet command.selecting
+    ensures does { Executes (process_command budget.now linked.now command.applet command.selecting
         command.expected memory.old) memory.old (after_step result memory.new) }
     ensures outside { OnOk result (memory.new.heap.begun ≡ false) }
 {
@@ -78,4 +78,21 @@ pub fn process<S: WordStore>(
     let ending = result_of_run(outcome, memory, linked);
     close(memory)?;
     Ok(ending)
+}
+
+/// The same out of line, for commands that come seldom.
+#[inline(never)]
+pub fn process_apart<S: WordStore>(
+    budget: &Budget,
+    command: AppletCommand,
+    frames: &mut Frames,
+    memory: &mut Memory<S>,
+    linked: &Linked,
+) -> Result<AppletResult, StoreDown>
+    requires up { memory.old.heap.down ≡ false }
+    ensures does { Executes (process_command budget.now linked.now command.applet command.selecting
+        command.expected memory.old) memory.old (after_step result memory.new) }
+    ensures outside { OnOk result (memory.new.heap.begun ≡ false) }
+{
+    process(budget, command, frames, memory, linked)
 }

@@ -7,7 +7,7 @@ ghost use Rattle.jc_dispatch.specs.Select.{applet_left, deselection, is_same_app
 use crate::applet_result::{AppletResult, is_select_accepted};
 use crate::closing::close;
 use crate::phase::{AppletCall, call_applet_method, instance_of};
-use crate::process::{AppletCommand, process};
+use crate::process::{AppletCommand, process_apart};
 use jc_frames::{Cell, Frames};
 use jc_interp::attacks::Budget;
 use jc_linker::linked::Linked;
@@ -61,7 +61,7 @@ fn leave_applet<S: WordStore>(
         arguments: &[Cell::Reference(instance)],
         owner: Owner::Applet(applet),
     };
-    let (rest, _) = call_applet_method(budget, call, frames, memory, linked)?;
+    let (rest, _) = call_applet_method(&budget, call, frames, memory, linked)?;
     close(memory)?;
     memory.clear(ClearEvent::Deselect);
     Ok(rest)
@@ -119,7 +119,7 @@ pub fn select<S: WordStore>(
         owner: Owner::Applet(applet),
     };
     let budget = budget.with_left(rest);
-    let (rest, outcome) = call_applet_method(budget, call, frames, memory, linked)?;
+    let (rest, outcome) = call_applet_method(&budget, call, frames, memory, linked)?;
     close(memory)?;
     if is_select_accepted(outcome) {
         let command = AppletCommand {
@@ -127,7 +127,7 @@ pub fn select<S: WordStore>(
             selecting: true,
             expected,
         };
-        return process(budget.with_left(rest), command, frames, memory, linked);
+        return process_apart(&budget.with_left(rest), command, frames, memory, linked);
     }
     let registers = memory.registers();
     memory.set_registers(Registers {

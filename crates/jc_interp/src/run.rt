@@ -203,18 +203,18 @@ fn run_budget<S: WordStore>(
 #[inline(always)]
 pub fn run_of<S: WordStore>(
     lent: &[u8],
-    budget: Budget,
+    budget: &Budget,
     frames: &mut Frames,
     memory: &mut Memory<S>,
     linked: &Linked,
 ) -> Result<(u32, Outcome), StoreDown>
     requires up { memory.old.heap.down ≡ false }
     requires short { length lent.now < 2 ^ 16 }
-    ensures { Executes (run_of budget.attack budget.left lent.now linked.now frames.old memory.old)
+    ensures { Executes (run_of budget.now.attack budget.now.left lent.now linked.now frames.old memory.old)
         memory.old (after_step result memory.new) }
 {
     memory.notes().forget();
-    match run_budget(lent, &budget, frames, memory, linked)? {
+    match run_budget(lent, budget, frames, memory, linked)? {
         Some(end) => Ok(end),
         None => {
             note_budget(frames, memory);
@@ -226,13 +226,13 @@ pub fn run_of<S: WordStore>(
 /// The same for methods of packages.
 #[inline(always)]
 pub fn run_methods<S: WordStore>(
-    budget: Budget,
+    budget: &Budget,
     frames: &mut Frames,
     memory: &mut Memory<S>,
     linked: &Linked,
 ) -> Result<(u32, Outcome), StoreDown>
     requires up { memory.old.heap.down ≡ false }
-    ensures { Executes (run_methods budget linked.now frames.old memory.old) memory.old
+    ensures { Executes (run_methods budget.now linked.now frames.old memory.old) memory.old
         (after_step result memory.new) }
 {
     run_of(&[], budget, frames, memory, linked)
@@ -259,5 +259,5 @@ pub fn run_ad_hoc<S: WordStore>(
     };
     let mut frames = Frames::empty();
     frames.begin(&[], locals, max_stack, 0, no_package);
-    run_of(code, budget, &mut frames, memory, linked)
+    run_of(code, &budget, &mut frames, memory, linked)
 }
