@@ -30,7 +30,7 @@ use jc_instructions::server_call::call_server;
 use jc_linker::linked::Linked;
 use jc_linker::target::{Method, Target};
 use jc_memory::Memory;
-use jc_platform::names::{PlatformMethod, SystemMethod, UtilitiesMethod};
+use jc_platform::names::{ExceptionsMethod, PlatformMethod, SystemMethod, UtilitiesMethod};
 use jc_words::WordStore;
 use jc_world::{NativeResult, StepExit};
 
@@ -498,6 +498,14 @@ fn goes_on_after_any_static<S: WordStore>(
         ),
         PlatformMethod::System(SystemMethod::JcSystemCommitTransaction) => goes_on_after_static(
             PlatformMethod::System(SystemMethod::JcSystemCommitTransaction),
+            place,
+            frames,
+            memory,
+            linked,
+            exit,
+        ),
+        PlatformMethod::Exceptions(ExceptionsMethod::IsoExceptionThrowIt) => goes_on_after_static(
+            PlatformMethod::Exceptions(ExceptionsMethod::IsoExceptionThrowIt),
             place,
             frames,
             memory,
