@@ -106,7 +106,7 @@ pub(crate) fn open_array<S: WordStore>(
     if !has_elements(of_type, header.kind) {
         return None;
     }
-    if !is_own(header, memory) && !is_global(header) {
+    if !is_global(header) && !is_own(header, memory) {
         return None;
     }
     Some(header)
