@@ -28,7 +28,7 @@ pub fn u2_at(code: &[u8], at: usize) -> Option<u16>
     ensures within { IsSome result → at + 1 < length code.now }
 {
     let low = *code.get(at.checked_add(1)?)?; // the last first, so that the other needs no test
-    Some(u16::from_be_bytes([code[at], low]))
+    Some(u16::from(code[at]) * 256 + u16::from(low))
 }
 
 /// The signed number of the two bytes from `at` on, the high one first, if the code reaches so far.
@@ -37,6 +37,5 @@ pub fn s2_at(code: &[u8], at: usize) -> Option<i16>
     ensures value { result ≡ s2 code.now at }
     ensures within { IsSome result → at + 1 < length code.now }
 {
-    let low = *code.get(at.checked_add(1)?)?; // the last first, so that the other needs no test
-    Some(i16::from_be_bytes([code[at], low]))
+    Some(u2_at(code, at)?.cast_signed())
 }
