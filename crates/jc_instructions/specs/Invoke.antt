@@ -199,9 +199,9 @@ abbrev pub call_of_code : Callee → MethodCall
 call_of_code c = call_of (Code c.package_number c.offset) c.arguments c.switches_to
 
 -- an entry that names a method of the platform, for virtual calls
-abbrev pub IsOfPlatform : Target → Type 0
-IsOfPlatform (VirtualMethod class token (Native method)) = Unit {0}
-IsOfPlatform other = ⊥
+abbrev pub Names : PlatformMethod → Target → Type 0
+Names method (VirtualMethod class token (Native named)) = named ≡ method
+Names method other = ⊥
 
 -- a call of a method of the platform was chosen, with as many cells as arguments as it takes
 abbrev pub ChoosesOfPlatform : Result MethodCall FrameExit → PlatformMethod → Type 0

@@ -12,7 +12,7 @@ ghost use Rattle.jc_firewall.specs.declared.subject.Context.TheVariants.{Jcre};
 ghost use Rattle.jc_world.specs.Contexts.{firewall_decision};
 ghost use Rattle.jc_frames.specs.Calls.{arguments_on};
 ghost use Rattle.jc_platform.specs.Signatures.{argument_cells};
-ghost use Rattle.jc_instructions.specs.Invoke.{ChoosesOfPlatform, IsFoundAt, IsFoundCode, IsOfPlatform, IsSwitchedTo, arguments_of, call_of, call_of_code, invokeinterface, invokevirtual};
+ghost use Rattle.jc_instructions.specs.Invoke.{ChoosesOfPlatform, IsFoundAt, IsFoundCode, IsSwitchedTo, Names, arguments_of, call_of, call_of_code, invokeinterface, invokevirtual};
 ghost use Rattle.jc_instructions.specs.Invoke.{class_of, header_of, interface_access, is_null_on};
 ghost use Rattle.jc_instructions.specs.Invoke.{receiver_of, receiver_on, virtual_by};
 
@@ -265,35 +265,36 @@ fn named_of_platform<'f, S: WordStore>(
     Some(arguments)
 }
 
-/// The method of the platform that this entry names, how many cells its arguments have, and these, where a virtual call by the entry runs this very
+/// How many cells the arguments of a method of the platform have, which this entry names, and these, where a virtual call by the entry runs this very
 /// method and no more has to be asked than of most calls; else nothing.
 #[inline(always)]
-pub fn named_method_of_platform<'f, S: WordStore>(
+pub fn named_arguments<'f, S: WordStore>(
+    method: PlatformMethod,
     entry: &Target,
     frames: &'f Frames,
     memory: &Memory<S>,
     linked: &Linked,
-) -> Option<(PlatformMethod, u8, &'f [Cell])>
+) -> Option<(u8, &'f [Cell])>
     requires up { memory.now.heap.down ≡ false }
-    requires platform { IsOfPlatform entry.now }
+    requires named { Names method entry.now }
     ensures chosen { IfSome result (λ r. ChoosesOfPlatform (virtual_by
-        (Some entry.now) linked.now frames.entry.now.current.stack memory.now) r.0) }
-    ensures cells { IfSome result (λ r. r.1 ≡ argument_cells r.0) }
-    ensures arguments { IfSome result (λ r. arguments_on r.1 frames.entry.now.current.stack
-        ≡ Some r.2.now) }
+        (Some entry.now) linked.now frames.entry.now.current.stack memory.now) method) }
+    ensures cells { IfSome result (λ r. r.0 ≡ argument_cells method) }
+    ensures arguments { IfSome result (λ r. arguments_on r.0 frames.entry.now.current.stack
+        ≡ Some r.1.now) }
 {
     match entry {
         Target::VirtualMethod {
             class,
             token,
-            method: Method::Native(method),
+            method: Method::Native(_),
         } => {
             let count = method.argument_cells();
-            let known = named_of_platform(*class, *token, *method, count, frames, memory, linked);
+            let known = named_of_platform(*class, *token, method, count, frames, memory, linked);
             let Some(arguments) = known else {
                 return None;
             };
-            Some((*method, count, arguments))
+            Some((count, arguments))
         }
         _ => unreachable!(),
     }

@@ -3,34 +3,39 @@ ghost use Rattle.std.specs.Prelude.{◌≡◌, ◌<◌, ◌^◌, false, length, 
 ghost use Rattle.jc_frames.specs.declared.instr.InvokeOp.TheVariants.{Special, Static, Virtual};
 ghost use Rattle.jc_frames.specs.declared.method.CallKind.TheVariants.{Instruction};
 ghost use Rattle.jc_linker.specs.declared.target.Method.TheVariants.{Code, Native};
-ghost use Rattle.jc_platform.specs.declared.names.PlatformMethod.TheVariants.{Utilities};
-ghost use Rattle.jc_platform.specs.declared.names.UtilitiesMethod.TheVariants.{UtilGetShort};
+ghost use Rattle.jc_platform.specs.declared.names.PlatformMethod.TheVariants.{Apdus, Exceptions, System, Utilities};
+ghost use Rattle.jc_platform.specs.declared.names.ApdusMethod.TheVariants.{ApduSetOutgoingAndSend};
+ghost use Rattle.jc_platform.specs.declared.names.ExceptionsMethod.TheVariants.{IsoExceptionThrowIt};
+ghost use Rattle.jc_platform.specs.declared.names.SystemMethod.TheVariants.{JcSystemBeginTransaction, JcSystemCommitTransaction};
+ghost use Rattle.jc_platform.specs.declared.names.UtilitiesMethod.TheVariants.{UtilSetShort};
 ghost use Rattle.jc_linker.specs.Lookups.{target_at};
 ghost use Rattle.jc_memory.specs.Programs.{Executes};
 ghost use Rattle.jc_world.specs.Instructions.{after_instruction};
-ghost use Rattle.jc_instructions.specs.Invoke.{IsOfPlatform, call_of_code, header_of, method_selection};
+ghost use Rattle.jc_instructions.specs.Invoke.{Names, call_of_code, header_of, method_selection};
 ghost use Rattle.jc_instructions.specs.MethodComponent.{method_component_of};
 ghost use Rattle.jc_interp.specs.Calling.{after_native_return, ended, invoke_instruction, invoke_selected, native_invoke, static_invoke};
 ghost use Rattle.jc_interp.specs.RunningCode.{IsRunningCode};
 
+use crate::calls_at_once::{static_at_once, virtual_at_once};
 use crate::natives::{call_native, call_other};
 use crate::own_calls::{
     component_of, select_own_code, select_own_implementation, select_own_special, short_header_at,
 };
-use jc_api_framework::short_at_once;
 use jc_frames::instr::InvokeOp;
 use jc_frames::{CallKind, Cell, Frames, Outcome, header_at};
 use jc_instructions::enter::{CallSite, Callee, enter};
 use jc_instructions::invoke::{SelectedCall, select_method};
 use jc_instructions::known_calls::{
-    CodeCall, method_of_platform, named_method_of_platform, select_code, select_interface_code,
+    CodeCall, method_of_platform, named_arguments, select_code, select_interface_code,
 };
 use jc_instructions::method_component::method_component_of;
 use jc_instructions::server_call::call_server;
 use jc_linker::linked::Linked;
 use jc_linker::target::{Method, Target};
 use jc_memory::Memory;
-use jc_platform::names::{ExceptionsMethod, PlatformMethod, SystemMethod, UtilitiesMethod};
+use jc_platform::names::{
+    ApdusMethod, ExceptionsMethod, PlatformMethod, SystemMethod, UtilitiesMethod,
+};
 use jc_words::WordStore;
 use jc_world::{NativeResult, StepExit};
 
@@ -296,8 +301,9 @@ fn invoke_other_of_platform<S: WordStore>(
 // The same, where most calls run the very method that the entry names: of these nothing else is asked. Where code goes on, it leaves by a way of its
 // own, which hands on nothing of an exit.
 #[tactic(auto, using(jc_memory::proofs::ProgramLemmas::in_two_calls), unfolding(crate::specs::Calling::invoke_instruction, crate::specs::Calling::native_invoke, jc_instructions::specs::Invoke::method_selection))]
-#[inline(never)]
-fn invoke_of_platform<S: WordStore>(
+#[inline(always)]
+fn invoke_named<S: WordStore>(
+    method: PlatformMethod,
     entry: &Target,
     index: u16,
     place: u16,
@@ -308,12 +314,12 @@ fn invoke_of_platform<S: WordStore>(
     requires up { memory.old.heap.down ≡ false }
     requires entry { Some entry.now ≡ target_at linked.now frames.old.current.origin.package_number
         index }
-    requires platform { IsOfPlatform entry.now }
+    requires named { Names method entry.now }
     ensures { Executes (invoke_instruction (Virtual index) place linked.now frames.old memory.old)
         memory.old (after_instruction result frames.new memory.new) }
 {
-    let known = named_method_of_platform(entry, frames, memory, linked);
-    let Some((method, cells, arguments)) = known else {
+    let known = named_arguments(method, entry, frames, memory, linked);
+    let Some((cells, arguments)) = known else {
         return invoke_other_of_platform(entry, index, place, frames, memory, linked);
     };
     let answered = call_native(method, arguments, memory, linked)?;
@@ -326,6 +332,48 @@ fn invoke_of_platform<S: WordStore>(
         }
         other => answer(other, place, frames, memory, linked),
     }
+}
+
+// The same of `APDU.setOutgoingAndSend`, whose row is known when this is compiled.
+#[inline(never)]
+fn invoke_set_outgoing_and_send<S: WordStore>(
+    entry: &Target,
+    index: u16,
+    place: u16,
+    frames: &mut Frames,
+    memory: &mut Memory<S>,
+    linked: &Linked,
+) -> Result<(), StepExit>
+    requires up { memory.old.heap.down ≡ false }
+    requires entry { Some entry.now ≡ target_at linked.now frames.old.current.origin.package_number
+        index }
+    requires named { Names (Apdus ApduSetOutgoingAndSend) entry.now }
+    ensures { Executes (invoke_instruction (Virtual index) place linked.now frames.old memory.old)
+        memory.old (after_instruction result frames.new memory.new) }
+{
+    let method = PlatformMethod::Apdus(ApdusMethod::ApduSetOutgoingAndSend);
+    invoke_named(method, entry, index, place, frames, memory, linked)
+}
+
+// The same of any method.
+#[inline(never)]
+fn invoke_of_platform<S: WordStore>(
+    method: PlatformMethod,
+    entry: &Target,
+    index: u16,
+    place: u16,
+    frames: &mut Frames,
+    memory: &mut Memory<S>,
+    linked: &Linked,
+) -> Result<(), StepExit>
+    requires up { memory.old.heap.down ≡ false }
+    requires entry { Some entry.now ≡ target_at linked.now frames.old.current.origin.package_number
+        index }
+    requires named { Names method entry.now }
+    ensures { Executes (invoke_instruction (Virtual index) place linked.now frames.old memory.old)
+        memory.old (after_instruction result frames.new memory.new) }
+{
+    invoke_named(method, entry, index, place, frames, memory, linked)
 }
 
 // A static call of a method in bytecode by the instruction at a place, out of line: any header.
@@ -438,9 +486,9 @@ fn goes_on_after_static<S: WordStore>(
     }
 }
 
-// The same of `Util.getShort`. What is known at once goes no way over memory.
-#[inline(always)]
-fn goes_on_after_get_short<S: WordStore>(
+// The same of `Util.setShort`, out of line: its row is known when this is compiled.
+#[inline(never)]
+fn goes_on_after_set_short<S: WordStore>(
     place: u16,
     frames: &mut Frames,
     memory: &mut Memory<S>,
@@ -448,22 +496,83 @@ fn goes_on_after_get_short<S: WordStore>(
     exit: &mut StepExit,
 ) -> bool
     requires up { memory.old.heap.down ≡ false }
-    ensures { Executes (static_invoke (Native (Utilities UtilGetShort)) place linked.now frames.old
-        memory.old) memory.old (after_instruction (ended result exit.new) frames.new memory.new) }
+    ensures { Executes (static_invoke (Native (Utilities UtilSetShort)) place linked.now frames.old memory.old)
+        memory.old (after_instruction (ended result exit.new) frames.new memory.new) }
 {
-    if let Some(arguments) = frames.arguments(2) {
-        if let Some(value) = short_at_once(arguments, memory) {
-            frames.discard(2);
-            let answered = NativeResult::ReturnValue(Cell::Short(value));
-            return goes_on_after(answered, place, frames, memory, linked, exit);
-        }
-    }
-    let method = PlatformMethod::Utilities(UtilitiesMethod::UtilGetShort);
+    let method = PlatformMethod::Utilities(UtilitiesMethod::UtilSetShort);
     goes_on_after_static(method, place, frames, memory, linked, exit)
 }
 
-/// The same out of line. Of the methods that commands call most, the rows are known when this is compiled.
+// The same of `JCSystem.beginTransaction`.
 #[inline(never)]
+fn goes_on_after_begin<S: WordStore>(
+    place: u16,
+    frames: &mut Frames,
+    memory: &mut Memory<S>,
+    linked: &Linked,
+    exit: &mut StepExit,
+) -> bool
+    requires up { memory.old.heap.down ≡ false }
+    ensures { Executes (static_invoke (Native (System JcSystemBeginTransaction)) place linked.now frames.old memory.old)
+        memory.old (after_instruction (ended result exit.new) frames.new memory.new) }
+{
+    let method = PlatformMethod::System(SystemMethod::JcSystemBeginTransaction);
+    goes_on_after_static(method, place, frames, memory, linked, exit)
+}
+
+// The same of `JCSystem.commitTransaction`.
+#[inline(never)]
+fn goes_on_after_commit<S: WordStore>(
+    place: u16,
+    frames: &mut Frames,
+    memory: &mut Memory<S>,
+    linked: &Linked,
+    exit: &mut StepExit,
+) -> bool
+    requires up { memory.old.heap.down ≡ false }
+    ensures { Executes (static_invoke (Native (System JcSystemCommitTransaction)) place linked.now frames.old memory.old)
+        memory.old (after_instruction (ended result exit.new) frames.new memory.new) }
+{
+    let method = PlatformMethod::System(SystemMethod::JcSystemCommitTransaction);
+    goes_on_after_static(method, place, frames, memory, linked, exit)
+}
+
+// The same of `ISOException.throwIt`.
+#[inline(never)]
+fn goes_on_after_throw_it<S: WordStore>(
+    place: u16,
+    frames: &mut Frames,
+    memory: &mut Memory<S>,
+    linked: &Linked,
+    exit: &mut StepExit,
+) -> bool
+    requires up { memory.old.heap.down ≡ false }
+    ensures { Executes (static_invoke (Native (Exceptions IsoExceptionThrowIt)) place linked.now frames.old memory.old)
+        memory.old (after_instruction (ended result exit.new) frames.new memory.new) }
+{
+    let method = PlatformMethod::Exceptions(ExceptionsMethod::IsoExceptionThrowIt);
+    goes_on_after_static(method, place, frames, memory, linked, exit)
+}
+
+// The same of any method.
+#[inline(never)]
+fn goes_on_after_other_static<S: WordStore>(
+    method: PlatformMethod,
+    place: u16,
+    frames: &mut Frames,
+    memory: &mut Memory<S>,
+    linked: &Linked,
+    exit: &mut StepExit,
+) -> bool
+    requires up { memory.old.heap.down ≡ false }
+    ensures { Executes (static_invoke (Native method) place linked.now frames.old memory.old)
+        memory.old (after_instruction (ended result exit.new) frames.new memory.new) }
+{
+    goes_on_after_static(method, place, frames, memory, linked, exit)
+}
+
+// The same. The methods that commands call most have ways of their own.
+#[inline(always)]
 fn goes_on_after_any_static<S: WordStore>(
     method: PlatformMethod,
     place: u16,
@@ -477,42 +586,19 @@ fn goes_on_after_any_static<S: WordStore>(
         memory.old (after_instruction (ended result exit.new) frames.new memory.new) }
 {
     match method {
-        PlatformMethod::Utilities(UtilitiesMethod::UtilGetShort) => {
-            goes_on_after_get_short(place, frames, memory, linked, exit)
+        PlatformMethod::Utilities(UtilitiesMethod::UtilSetShort) => {
+            goes_on_after_set_short(place, frames, memory, linked, exit)
         }
-        PlatformMethod::Utilities(UtilitiesMethod::UtilSetShort) => goes_on_after_static(
-            PlatformMethod::Utilities(UtilitiesMethod::UtilSetShort),
-            place,
-            frames,
-            memory,
-            linked,
-            exit,
-        ),
-        PlatformMethod::System(SystemMethod::JcSystemBeginTransaction) => goes_on_after_static(
-            PlatformMethod::System(SystemMethod::JcSystemBeginTransaction),
-            place,
-            frames,
-            memory,
-            linked,
-            exit,
-        ),
-        PlatformMethod::System(SystemMethod::JcSystemCommitTransaction) => goes_on_after_static(
-            PlatformMethod::System(SystemMethod::JcSystemCommitTransaction),
-            place,
-            frames,
-            memory,
-            linked,
-            exit,
-        ),
-        PlatformMethod::Exceptions(ExceptionsMethod::IsoExceptionThrowIt) => goes_on_after_static(
-            PlatformMethod::Exceptions(ExceptionsMethod::IsoExceptionThrowIt),
-            place,
-            frames,
-            memory,
-            linked,
-            exit,
-        ),
-        other => goes_on_after_static(other, place, frames, memory, linked, exit),
+        PlatformMethod::System(SystemMethod::JcSystemBeginTransaction) => {
+            goes_on_after_begin(place, frames, memory, linked, exit)
+        }
+        PlatformMethod::System(SystemMethod::JcSystemCommitTransaction) => {
+            goes_on_after_commit(place, frames, memory, linked, exit)
+        }
+        PlatformMethod::Exceptions(ExceptionsMethod::IsoExceptionThrowIt) => {
+            goes_on_after_throw_it(place, frames, memory, linked, exit)
+        }
+        other => goes_on_after_other_static(other, place, frames, memory, linked, exit),
     }
 }
 
@@ -529,6 +615,9 @@ fn call_static_native<S: WordStore>(
     ensures { Executes (static_invoke (Native method) place linked.now frames.old memory.old)
         memory.old (after_instruction result frames.new memory.new) }
 {
+    if static_at_once(method, place, frames, memory, linked) {
+        return Ok(());
+    }
     let mut exit = StepExit::Down;
     if goes_on_after_any_static(method, place, frames, memory, linked, &mut exit) {
         return Ok(());
@@ -682,6 +771,36 @@ fn invoke_virtual_code<S: WordStore>(
     invoke_virtual_other(entry, index, place, frames, memory, linked)
 }
 
+// A virtual call by the instruction at a place, whose entry names a method of the platform. The methods that commands call most have ways of their
+// own.
+#[inline(always)]
+fn call_virtual_native<S: WordStore>(
+    method: PlatformMethod,
+    entry: &Target,
+    index: u16,
+    place: u16,
+    frames: &mut Frames,
+    memory: &mut Memory<S>,
+    linked: &Linked,
+) -> Result<(), StepExit>
+    requires up { memory.old.heap.down ≡ false }
+    requires entry { Some entry.now ≡ target_at linked.now frames.old.current.origin.package_number
+        index }
+    requires named { Names method entry.now }
+    ensures { Executes (invoke_instruction (Virtual index) place linked.now frames.old memory.old)
+        memory.old (after_instruction result frames.new memory.new) }
+{
+    if virtual_at_once(method, entry, frames, memory, linked) {
+        return Ok(());
+    }
+    match method {
+        PlatformMethod::Apdus(ApdusMethod::ApduSetOutgoingAndSend) => {
+            invoke_set_outgoing_and_send(entry, index, place, frames, memory, linked)
+        }
+        other => invoke_of_platform(other, entry, index, place, frames, memory, linked),
+    }
+}
+
 // A virtual call by the instruction at a place.
 #[tactic(auto, using(crate::proofs::RunningCode::has_pool), unfolding(crate::specs::Calling::invoke_instruction, jc_instructions::specs::Invoke::method_selection))]
 #[inline(always)]
@@ -704,9 +823,9 @@ fn invoke_virtual<S: WordStore>(
     };
     match entry {
         Target::VirtualMethod {
-            method: Method::Native(_),
+            method: Method::Native(method),
             ..
-        } => invoke_of_platform(entry, index, place, frames, memory, linked),
+        } => call_virtual_native(*method, entry, index, place, frames, memory, linked),
         _ => invoke_virtual_code(entry, index, place, code, frames, memory, linked),
     }
 }
