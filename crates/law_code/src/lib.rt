@@ -2,6 +2,7 @@
 //! reach. Laws of code that runs for an applet: what it leaves as it is, what an open transaction takes back, and which tries of PINs outlast it.
 #![tactic(auto)]
 
+mod byte_file;
 mod class_laws;
 mod isolation_laws;
 mod method_laws;
@@ -9,6 +10,7 @@ mod pin_update_laws;
 mod resolution_laws;
 mod transaction_laws;
 
+pub use byte_file::{ByteFile, a_store_begins_in_step};
 pub use class_laws::{
     applets_of_linked_packages_have_aids, fields_are_cells_of_their_kind,
     instances_have_the_cells_of_the_platform, linked_packages_know_their_classes,
